@@ -1,0 +1,12 @@
+pub mod Numbers
+pub mod Checksum
+pub mod Names
+pub mod Kinds
+pub mod Escapes
+pub mod Superblock
+pub mod Inode
+pub mod Entries
+pub mod ShortDirectory
+pub mod Directory
+pub mod Causes
+pub mod Outcome

@@ -1,0 +1,56 @@
+ghost use Rattle.std.specs.Prelude.{◌≡◌, ◌<◌, ◌++◌, length, take, OnOk, OnErr};
+ghost use Rattle.xn_bytes.specs.Escapes.{stands_for_itself, hex_digit, escaped_byte, escaped};
+
+use crate::Memory;
+use std::alloc::AllocError;
+
+/// Appends the text of bytes: those from 0x21 to 0x7e but `\` stand for themselves, every other is `\` and two
+/// lower-case hexadecimal digits. The room is that of the vector's own allocator; without it nothing is appended.
+pub fn escape(bytes: &[u8], out: &mut Vec<u8>) -> Result<(), Memory>
+    ensures ok { OnOk result (out.new.items ≡ out.old.items ++ escaped bytes.now) }
+    ensures err { OnErr result (out.new.items ≡ out.old.items) }
+{
+    let before = out.len();
+    match escape_all(bytes, out) {
+        Ok(()) => Ok(()),
+        Err(_) => {
+            out.truncate(before);
+            Err(Memory)
+        }
+    }
+}
+
+fn escape_all(bytes: &[u8], out: &mut Vec<u8>) -> Result<(), AllocError>
+    ensures ok { OnOk result (out.new.items ≡ out.old.items ++ escaped bytes.now) }
+    ensures err { OnErr result (take (length out.old.items) out.new.items ≡ out.old.items) }
+{
+    for byte in bytes {
+        escape_byte(*byte, out)?;
+    }
+    Ok(())
+}
+
+fn escape_byte(byte: u8, out: &mut Vec<u8>) -> Result<(), AllocError>
+    ensures ok { OnOk result (out.new.items ≡ out.old.items ++ escaped_byte byte) }
+    ensures err { OnErr result (out.new.items ≡ out.old.items) }
+{
+    if is_plain(byte) {
+        out.push(byte)?;
+    } else {
+        out.extend_from_slice(&[b'\\', digit(byte / 16), digit(byte % 16)])?;
+    }
+    Ok(())
+}
+
+fn is_plain(byte: u8) -> bool
+    ensures { result ≡ stands_for_itself byte }
+{
+    (0x21..=0x7e).contains(&byte) && byte != b'\\'
+}
+
+fn digit(n: u8) -> u8
+    requires { n < 16 }
+    ensures { result ≡ hex_digit n }
+{
+    if n < 10 { b'0' + n } else { b'a' + (n - 10) }
+}

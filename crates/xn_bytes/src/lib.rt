@@ -1,0 +1,19 @@
+//! What every crate of the project speaks of: names, kinds, checksums, escapes, the numbers in disk structures and the
+//! statuses of the program. Its `specs/` hold the definitions that the contracts of all crates cite.
+#![tactic(auto)]
+
+mod bytes;
+mod escapes;
+mod kind;
+mod memory;
+mod name;
+mod numbers;
+mod status;
+
+pub use bytes::Bytes;
+pub use escapes::escape;
+pub use kind::Kind;
+pub use memory::Memory;
+pub use name::{Name, NameFault, check_name};
+pub use numbers::{little_u32_at, u8_at, u16_at, u32_at, u64_at};
+pub use status::Status;

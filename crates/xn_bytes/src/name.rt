@@ -1,0 +1,77 @@
+ghost use Rattle.std.specs.Prelude.{◌≡◌, MatchResult};
+ghost use Rattle.xn_bytes.specs.Names.{IsName, IsNameFault};
+
+use std::alloc::Global;
+use std::marker::Model;
+
+/// Why bytes are no name, in the order in which the causes are looked for.
+#[derive(Clone, Copy, Debug, PartialEq, Eq)]
+pub enum NameFault {
+    /// There are no bytes.
+    Empty,
+    /// There are more than 255 bytes.
+    Long,
+    /// The byte at this place is the first that is 0 or `/`.
+    Byte { at: u64 },
+    /// The bytes are `.` or `..`.
+    Dots,
+    /// Memory ran out.
+    Memory,
+}
+
+/// A name in a directory: 1 to 255 bytes without 0 and `/`, and neither `.` nor `..`. Contracts see its bytes.
+#[derive(Debug, Drop)]
+pub struct Name {
+    bytes: Vec<u8>,
+}
+
+impl Model for Name {
+    ghost use Rattle.std.specs.Prelude.{ℕ, List};
+    ghost use Rattle.xn_bytes.specs.Names.{IsName};
+
+    ghost Value = { List ℕ };
+
+    ghost view = { λ n. n.bytes.items };
+
+    ghost invariant = { λ n. IsName n.bytes.items };
+}
+
+impl Name {
+    /// The name of these bytes, or the first cause for which they are none.
+    pub fn read(alloc: Global, bytes: &[u8]) -> Result<Name, NameFault>
+        ensures { MatchResult result (λ name. (name ≡ bytes.now) × IsName bytes.now) (IsNameFault bytes.now) }
+    {
+        check_name(bytes)?;
+        match Vec::from_slice(alloc, bytes) {
+            Ok(bytes) => Ok(Name { bytes }),
+            Err(_) => Err(NameFault::Memory),
+        }
+    }
+
+    /// The bytes of the name.
+    pub fn bytes(&self) -> &[u8]
+        ensures value { result.now ≡ self.now }
+        ensures name { IsName self.now }
+    {
+        &self.bytes
+    }
+}
+
+/// Whether bytes are a name; where they are none, the first cause. It takes no memory.
+pub fn check_name(bytes: &[u8]) -> Result<(), NameFault>
+    ensures { MatchResult result (λ _. IsName bytes.now) (IsNameFault bytes.now) }
+{
+    if bytes.is_empty() {
+        return Err(NameFault::Empty);
+    }
+    if bytes.len() > 255 {
+        return Err(NameFault::Long);
+    }
+    if let Some(at) = bytes.iter().position(|byte| *byte == 0 || *byte == b'/') {
+        return Err(NameFault::Byte { at: at as u64 });
+    }
+    if bytes == b".".as_slice() || bytes == b"..".as_slice() {
+        return Err(NameFault::Dots);
+    }
+    Ok(())
+}

@@ -1,0 +1,2 @@
+//! Directories in short form, read in place.
+#![tactic(auto)]
