@@ -18,7 +18,7 @@ abbrev pub bit_step : ℕ → ℕ
 bit_step register = if register % 2 == 1 then bit_xor (register / 2) polynomial else register / 2
 
 -- the register after that many such bits
-abbrev pub bit_steps : ℕ → ℕ → ℕ
+unfoldable pub bit_steps : ℕ → ℕ → ℕ
 bit_steps zero register = register
 bit_steps (suc count) register = bit_steps count (bit_step register)
 

@@ -10,6 +10,7 @@ use Rattle.xn_bytes.specs.Superblock.{Geometry, sector_of_inode}
 -- formats of a fork
 abbrev pub local_format : ℕ
 local_format = 1
+
 abbrev pub extents_format : ℕ
 extents_format = 2
 

@@ -59,6 +59,7 @@ pub record IsPlain (image : List ℕ) (ino : ℕ) (form : ShortForm) : Type 0 wh
 
 abbrev pub space : ℕ
 space = 32
+
 abbrev pub newline : ℕ
 newline = 10
 

@@ -154,4 +154,4 @@ short_fault bytes =
     if nat_lt (length bytes) 2 then Some (length bytes)
     else if nat_lt (length bytes) (2 + width_in bytes) then Some (length bytes)
     else after_entries bytes
-        (entries_end (slice_index bytes 0) (width_in bytes) first_position (end_limit (slice_index bytes 0)) (2 + width_in bytes) (drop (2 + width_in bytes) bytes))
+    (entries_end (slice_index bytes 0) (width_in bytes) first_position (end_limit (slice_index bytes 0)) (2 + width_in bytes) (drop (2 + width_in bytes) bytes))

@@ -21,10 +21,13 @@ pub record Geometry : Type 0 where
 -- the bits of the incompatible features
 abbrev pub ftype_bit : ℕ
 ftype_bit = 1
+
 abbrev pub sparse_inodes_bit : ℕ
 sparse_inodes_bit = 2
+
 abbrev pub meta_uuid_bit : ℕ
 meta_uuid_bit = 4
+
 abbrev pub parent_bit : ℕ
 parent_bit = 128
 

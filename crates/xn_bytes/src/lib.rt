@@ -3,14 +3,17 @@
 #![tactic(auto)]
 
 mod bytes;
+mod checksum;
 mod escapes;
 mod kind;
 mod memory;
 mod name;
 mod numbers;
 mod status;
+mod tables;
 
 pub use bytes::Bytes;
+pub use checksum::{Crc, checksum_of, has_checksum};
 pub use escapes::escape;
 pub use kind::Kind;
 pub use memory::Memory;
