@@ -1,3 +1,4 @@
 pub mod NumberLemmas
 pub mod Registers
 pub mod TableLemmas
+pub mod TestLemmas

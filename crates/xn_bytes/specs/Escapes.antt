@@ -1,5 +1,5 @@
--- Names and paths in text: a printable byte but `\` stands for itself, every other byte is `\` and two
--- lower-case hexadecimal digits.
+-- Names and paths as text of one line: what is no printable ASCII, and `\` itself, is written as `\` with the byte's
+-- two hexadecimal digits in lower case.
 use Rattle.std.specs.Prelude.{ℕ, ◌+◌, ◌/◌, ◌%◌, ◌&&◌, ◌==◌, nat_le, nat_lt, not, if◌then◌else◌, Bool, List, [], ◌∷◌, flat_map}
 
 -- a byte that stands for itself: 0x21 to 0x7e but `\`

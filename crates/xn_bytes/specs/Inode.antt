@@ -7,10 +7,11 @@ use Rattle.xn_bytes.specs.Checksum.{HasChecksum}
 use Rattle.xn_bytes.specs.Kinds.{kind_of_mode}
 use Rattle.xn_bytes.specs.Superblock.{Geometry, sector_of_inode}
 
--- formats of a fork
+-- the format of a fork that holds the bytes themselves
 abbrev pub local_format : ℕ
 local_format = 1
 
+-- the format of a fork that holds a list of extents
 abbrev pub extents_format : ℕ
 extents_format = 2
 
@@ -80,9 +81,11 @@ pub record HasBothForks (g : Geometry) (inode : List ℕ) (number : ℕ) : Type 
 abbrev pub data_fork_end : List ℕ → ℕ
 data_fork_end inode = if number_at 1 82 inode == 0 then length inode else 176 + 8 * number_at 1 82 inode
 
+-- the bytes of the data fork
 abbrev pub data_fork_of : List ℕ → List ℕ
 data_fork_of inode = slice_range inode 176 (data_fork_end inode)
 
+-- the bytes of the attribute fork, none where it isn't there
 abbrev pub attr_fork_of : List ℕ → List ℕ
 attr_fork_of inode = drop (data_fork_end inode) inode
 

@@ -1,5 +1,5 @@
 -- Numbers in bytes, pieces of bytes, and bytes with others laid over them.
--- Every layout below reads a number by `number_at` (or `little_number_at`) and nothing else.
+-- Layouts read numbers of several bytes by `number_at` or `little_number_at`, and single bytes by `slice_index`.
 use Rattle.std.specs.Prelude.{ℕ, ◌+◌, ◌*◌, List, ◌++◌, length, take, drop, slice_range}
 use Rattle.byteorder.specs.Endian.{big_number, little_number}
 

@@ -31,10 +31,11 @@ pub record AsksList (words : List (List ℕ)) (ino : ℕ) : Type 0 where
 
 -- ---- the image
 
--- the geometry of an image, and whether its superblock is accepted
+-- the geometry that sector 0 of an image says
 abbrev pub geometry_in : List ℕ → Geometry
 geometry_in image = geometry_of (sector_of image 0)
 
+-- the superblock in sector 0 is accepted
 abbrev pub HasSuperblock : List ℕ → Type 0
 HasSuperblock image = IsSuperblock (sector_of image 0) (length image / 512)
 
@@ -42,30 +43,34 @@ HasSuperblock image = IsSuperblock (sector_of image 0) (length image / 512)
 abbrev pub inode_in : List ℕ → ℕ → List ℕ
 inode_in image ino = inode_of (geometry_in image) image ino
 
--- A plain directory: a live inode whose core and forks are sound, a directory in short form that is the root or has
--- a link, and whose form is lawful, with a name in each entry and each name once.
-pub record IsPlain (image : List ℕ) (ino : ℕ) (form : ShortForm) : Type 0 where
-  pub live : IsLive (geometry_in image) ino
-  pub core : HasCore (inode_in image ino) ino (geometry_in image).meta_uuid
-  pub forks : HasBothForks (geometry_in image) (inode_in image ino) ino
-  pub directory : kind_of_mode (number_at 2 2 (inode_in image ino)) ≡ Some Dir
-  pub short : number_at 1 5 (inode_in image ino) ≡ local_format
-  pub attached : (ino ≡ (geometry_in image).root) ⊎ (number_at 4 16 (inode_in image ino) ≢ 0)
-  pub size : HasShortSize (inode_in image ino)
-  pub spelled : ShortHolds (short_bytes_of (inode_in image ino)) form
+-- A plain directory, by its inode's bytes: core and forks are sound, it is a directory in short form that is the root
+-- or has a link, and its form is lawful, with a name in each entry and each name once.
+pub record IsPlain (g : Geometry) (ino : ℕ) (inode : List ℕ) (form : ShortForm) : Type 0 where
+  pub live : IsLive g ino
+  pub core : HasCore inode ino g.meta_uuid
+  pub forks : HasBothForks g inode ino
+  pub directory : kind_of_mode (number_at 2 2 inode) ≡ Some Dir
+  pub short : number_at 1 5 inode ≡ local_format
+  pub attached : (ino ≡ g.root) ⊎ (number_at 4 16 inode ≢ 0)
+  pub size : HasShortSize inode
+  pub spelled : ShortHolds (short_bytes_of inode) form
   pub names : HasNames form.entries
 
 -- ---- the told lines
 
+-- between the words of a line
 abbrev pub space : ℕ
 space = 32
 
+-- at the end of a line
 abbrev pub newline : ℕ
 newline = 10
 
+-- told to words that are none of the forms
 abbrev pub usage_line : List ℕ
 usage_line = codes "usage" ++ newline ∷ []
 
+-- told of an inode that this version doesn't list
 abbrev pub unbuilt_line : List ℕ
 unbuilt_line = codes "unbuilt" ++ newline ∷ []
 
@@ -84,8 +89,8 @@ list_text entries = codes "ok " ++ decimal (length entries) ++ newline ∷ [] ++
 
 -- ---- the answers
 
--- What the program answers to words, over an image where one is told: the status, and the text that it tells. The
--- cases shut each other out, so each status comes exactly where its cause stands.
+-- What the program answers to words: the status, and the text that it tells. Where an image is told, the cases shut
+-- each other out, so each status comes exactly where its cause stands; where none is told, only the words bind.
 abbrev pub Answers : List (List ℕ) → Option (List ℕ) → Status → List ℕ → Type 0
 Answers words image Usage told = ((ino : ℕ) → ¬ AsksList words ino) × (told ≡ usage_line)
 Answers words image Image told =
@@ -93,10 +98,10 @@ Answers words image Image told =
     × IfSome image (λ x. ¬ HasSuperblock x)
 Answers words image Unbuilt told =
     (ino : ℕ) × AsksList words ino × (told ≡ unbuilt_line)
-    × IfSome image (λ x. HasSuperblock x × ((form : ShortForm) → ¬ IsPlain x ino form))
+    × IfSome image (λ x. HasSuperblock x × ((form : ShortForm) → ¬ IsPlain (geometry_in x) ino (inode_in x ino) form))
 Answers words image Done told =
     (ino : ℕ) × AsksList words ino × (sorted : List Entry) × (told ≡ list_text sorted)
-    × IfSome image (λ x. HasSuperblock x × (form : ShortForm) × IsPlain x ino form × IsListing form.entries sorted)
+    × IfSome image (λ x. HasSuperblock x × (form : ShortForm) × IsPlain (geometry_in x) ino (inode_in x ino) form × IsListing form.entries sorted)
 -- no other status is an answer
 Answers words image ReadFault told = ⊥
 Answers words image SayFault told = ⊥
@@ -108,13 +113,14 @@ Answers words image Memory told = ⊥
 pub record Outside : Type 0 where
   pub image : Option (List ℕ)
   pub told : Option (List ℕ)
+  pub reads : ℕ
   pub read_faults : ℕ
   pub say_faults : ℕ
 
 -- the machine seen so
-abbrev pub outside_of : {M : Type 0} → (M → Option (List ℕ)) → (M → Option (List ℕ)) → (M → ℕ) → (M → ℕ) → M → Outside
-outside_of image told read_faults say_faults machine =
-    record { image = image machine; told = told machine; read_faults = read_faults machine; say_faults = say_faults machine }
+abbrev pub outside_of : {M : Type 0} → (M → Option (List ℕ)) → (M → Option (List ℕ)) → (M → ℕ) → (M → ℕ) → (M → ℕ) → M → Outside
+outside_of image told reads read_faults say_faults machine =
+    record { image = image machine; told = told machine; reads = reads machine; read_faults = read_faults machine; say_faults = say_faults machine }
 
 -- these bytes were told, and no others
 abbrev pub Tells : Outside → Outside → List ℕ → Type 0
@@ -124,16 +130,39 @@ Tells before now bytes = MatchOption before.told (now.told ≡ None) (λ told. n
 abbrev pub TellsAnswer : List (List ℕ) → Outside → Outside → Status → Type 0
 TellsAnswer words before now status = (text : List ℕ) × Answers words before.image status text × Tells before now text
 
--- How a call ends. Every status but Memory and the two faults is an answer, told whole. A fault is told only where
--- its count rose: of reading, with nothing told, or of telling, with the front of an answer told.
+-- A read that failed: words of the form were there, and no answer could be given without it, so that after the first
+-- read the superblock is accepted.
+pub record FailsToRead (words : List (List ℕ)) (before now : Outside) : Type 0 where
+  pub asks : (ino : ℕ) × AsksList words ino
+  pub rose : Rose before.read_faults now.read_faults
+  pub due : IfSome before.image (λ x. (now.reads ≤ before.reads + 1) ⊎ HasSuperblock x)
+  pub silent : Tells before now []
+
+-- Telling that failed: a front of an answer was told.
+pub record FailsToSay (words : List (List ℕ)) (before now : Outside) : Type 0 where
+  pub rose : Rose before.say_faults now.say_faults
+  pub status : Status
+  pub text : List ℕ
+  pub answer : Answers words before.image status text
+  pub count : ℕ
+  pub front : Tells before now (take count text)
+
+-- How a call ends. Every status but want of memory and the two faults is an answer, told whole.
 abbrev pub Outcome : List (List ℕ) → Outside → Outside → Status → Type 0
 Outcome words before now Done = TellsAnswer words before now Done
 Outcome words before now Usage = TellsAnswer words before now Usage
 Outcome words before now Image = TellsAnswer words before now Image
 Outcome words before now Unbuilt = TellsAnswer words before now Unbuilt
-Outcome words before now ReadFault = Rose before.read_faults now.read_faults × Tells before now []
-Outcome words before now SayFault =
-    Rose before.say_faults now.say_faults
-    × (status : Status) × (text : List ℕ) × Answers words before.image status text
-    × (count : ℕ) × Tells before now (take count text)
+Outcome words before now ReadFault = FailsToRead words before now
+Outcome words before now SayFault = FailsToSay words before now
 Outcome words before now Memory = Tells before now []
+
+-- the exit status of the program
+abbrev pub status_number : Status → ℕ
+status_number Done = 0
+status_number Usage = 1
+status_number Image = 2
+status_number ReadFault = 4
+status_number SayFault = 6
+status_number Memory = 7
+status_number Unbuilt = 11

@@ -53,13 +53,15 @@ geometry_of bytes = record {
 
 -- ---- places
 
--- the group of a block number, the block within the group, and its number counted through all groups
+-- the group that a block number names
 abbrev pub group_of : Geometry → ℕ → ℕ
 group_of g block = block / 2 ^ g.ag_block_log
 
+-- the block within its group
 abbrev pub block_in_group : Geometry → ℕ → ℕ
 block_in_group g block = block % 2 ^ g.ag_block_log
 
+-- the block counted through all groups
 abbrev pub linear_block : Geometry → ℕ → ℕ
 linear_block g block = group_of g block * g.ag_blocks + block_in_group g block
 
@@ -87,38 +89,38 @@ pub record IsOwnInode (g : Geometry) (ino : ℕ) : Type 0 where
   pub not_zero : ino ≢ 0
   pub not_none : ino ≢ 2 ^ 64 - 1
 
--- ---- the rows of the table of accepted fields
+-- ---- the accepted fields, numbered in the order in which they are looked at
 
--- row 1: there is a whole sector, and it begins `XFSB`
+-- field 1: there is a whole sector, and it begins `XFSB`
 pub record HasMagic (bytes : List ℕ) (sectors : ℕ) : Type 0 where
   pub sector : 1 ≤ sectors
   pub whole : 512 ≤ length bytes
   pub magic : number_at 4 0 bytes ≡ 0x58465342
 
--- row 2: the checksum at 224 is right
+-- field 2: the checksum at 224 is right
 abbrev pub HasRightChecksum : List ℕ → Type 0
 HasRightChecksum bytes = HasChecksum (take 512 bytes) 224
 
--- row 3: version 5 in the low four bits, no case folding (0x4000)
+-- field 3: version 5 in the low four bits, no case folding (0x4000)
 pub record HasVersion (bytes : List ℕ) : Type 0 where
   pub version : number_at 2 100 bytes % 16 ≡ 5
   pub no_folding : number_at 2 100 bytes / 0x4000 % 2 ≡ 0
 
--- row 4: blocks of 4,096 bytes
+-- field 4: blocks of 4,096 bytes
 abbrev pub HasBlockSize : List ℕ → Type 0
 HasBlockSize bytes = number_at 4 4 bytes ≡ 4096
 
--- row 5: sectors of 512 bytes
+-- field 5: sectors of 512 bytes
 abbrev pub HasSectorSize : List ℕ → Type 0
 HasSectorSize bytes = number_at 2 102 bytes ≡ 512
 
--- row 6: inodes of 512 bytes, 8 in a block
+-- field 6: inodes of 512 bytes, 8 in a block
 pub record HasInodeSize (bytes : List ℕ) : Type 0 where
   pub size : number_at 2 104 bytes ≡ 512
   pub per_block : number_at 2 106 bytes ≡ 8
   pub per_block_log : number_at 1 123 bytes ≡ 3
 
--- row 7: the groups hold the data blocks, the last group perhaps fewer
+-- field 7: the groups hold the data blocks, the last group perhaps fewer
 pub record HasGroups (g : Geometry) : Type 0 where
   pub some : 1 ≤ g.ag_count
   pub large : 64 ≤ g.ag_blocks
@@ -129,11 +131,11 @@ pub record HasGroups (g : Geometry) : Type 0 where
   pub all_hold : g.data_blocks ≤ g.ag_count * g.ag_blocks
   pub few : g.data_blocks < 2 ^ 48
 
--- row 8: directory blocks of one block
+-- field 8: directory blocks of one block
 abbrev pub HasDirectoryBlocks : List ℕ → Type 0
 HasDirectoryBlocks bytes = number_at 1 192 bytes ≡ 0
 
--- row 9: a log of 512 to 524,288 blocks within one group, with log sectors of 512 bytes
+-- field 9: a log of 512 to 524,288 blocks within one group, with log sectors of 512 bytes
 pub record HasLog (bytes : List ℕ) (g : Geometry) : Type 0 where
   pub not_zero : g.log_start ≢ 0
   pub least : 512 ≤ g.log_blocks
@@ -143,26 +145,26 @@ pub record HasLog (bytes : List ℕ) (g : Geometry) : Type 0 where
   pub in_data : linear_block g g.log_start + g.log_blocks ≤ g.data_blocks
   pub sector_size : (number_at 2 194 bytes ≡ 0) ⊎ (number_at 2 194 bytes ≡ 512)
 
--- row 10: of the incompatible features only those of 0xef (so not NEEDSREPAIR), FTYPE and PARENT among them
+-- field 10: of the incompatible features only those of 0xef (so not NEEDSREPAIR), FTYPE and PARENT among them
 pub record HasIncompat (bytes : List ℕ) : Type 0 where
   pub known : bit_and (number_at 4 216 bytes) 0xef ≡ number_at 4 216 bytes
   pub ftype : IsTrue (has_feature bytes ftype_bit)
   pub parent : IsTrue (has_feature bytes parent_bit)
 
--- row 11: of the read-only features only those of 0x0f; the log's feature word is 0 or 1
+-- field 11: of the read-only features only those of 0x0f; the log's feature word is 0 or 1
 pub record HasReadOnlyCompat (bytes : List ℕ) : Type 0 where
   pub known : number_at 4 212 bytes < 16
   pub log_word : number_at 4 220 bytes < 2
 
--- row 12: the root is an inode place in range
+-- field 12: the root is an inode place in range
 abbrev pub HasRoot : Geometry → Type 0
 HasRoot g = IsInode g g.root
 
--- row 13: the image has all its blocks
+-- field 13: the image has all its blocks
 abbrev pub HasLength : Geometry → ℕ → Type 0
 HasLength g sectors = 8 * g.data_blocks ≤ sectors
 
--- every row holds of the bytes of sector 0 of an image of so many sectors
+-- every field is accepted in the bytes of sector 0 of an image of so many sectors
 pub record IsSuperblock (bytes : List ℕ) (sectors : ℕ) : Type 0 where
   pub magic : HasMagic bytes sectors
   pub checksum : HasRightChecksum bytes
@@ -178,14 +180,14 @@ pub record IsSuperblock (bytes : List ℕ) (sectors : ℕ) : Type 0 where
   pub root : HasRoot (geometry_of bytes)
   pub length : HasLength (geometry_of bytes) sectors
 
--- In a list of rows, numbered from `row` on, `fails` is the number of the first that doesn't hold: it is this one,
--- or this one holds and it is among the rest.
+-- `fails` is the number of the first of several facts that doesn't hold: it is this one's number, or this one holds
+-- and it is that of one of the rest.
 abbrev pub OrElse : ℕ → ℕ → Type 0 → Type 0 → Type 0
-OrElse fails row Holds Rest = ((fails ≡ row) × ¬ Holds) ⊎ (Holds × Rest)
+OrElse fails number Holds Rest = ((fails ≡ number) × ¬ Holds) ⊎ (Holds × Rest)
 
--- the least row that fails
-abbrev pub FirstRowBroken : List ℕ → ℕ → ℕ → Type 0
-FirstRowBroken bytes sectors fails =
+-- the least field that is not accepted
+abbrev pub FirstFieldBroken : List ℕ → ℕ → ℕ → Type 0
+FirstFieldBroken bytes sectors fails =
     OrElse fails 1 (HasMagic bytes sectors)
     (OrElse fails 2 (HasRightChecksum bytes)
     (OrElse fails 3 (HasVersion bytes)
@@ -200,7 +202,7 @@ FirstRowBroken bytes sectors fails =
     (OrElse fails 12 (HasRoot (geometry_of bytes))
     (OrElse fails 13 (HasLength (geometry_of bytes) sectors) ⊥))))))))))))
 
--- What a geometry that was accepted keeps: its numbers are those of the accepted rows.
+-- What a geometry that was accepted keeps: its sizes, its log's place and its root are accepted.
 pub record IsGeometry (g : Geometry) : Type 0 where
   pub groups : HasGroups g
   pub log_not_zero : g.log_start ≢ 0

@@ -1,4 +1,7 @@
-/// How a run of the program ends. `code` is the exit status.
+ghost use Rattle.std.specs.Prelude.{◌≡◌};
+ghost use Rattle.xn_bytes.specs.Outcome.{status_number};
+
+/// How a run of the program ends.
 #[derive(Clone, Copy, Debug, PartialEq, Eq)]
 pub enum Status {
     /// All was read, and every reply was told.
@@ -15,4 +18,21 @@ pub enum Status {
     Memory,
     /// The inode is not one that this version lists.
     Unbuilt,
+}
+
+impl Status {
+    /// The exit status of the program.
+    pub fn number(self) -> u8
+        ensures { result ≡ status_number self }
+    {
+        match self {
+            Status::Done => 0,
+            Status::Usage => 1,
+            Status::Image => 2,
+            Status::ReadFault => 4,
+            Status::SayFault => 6,
+            Status::Memory => 7,
+            Status::Unbuilt => 11,
+        }
+    }
 }

@@ -18,7 +18,7 @@ geometry_from fields = record {
   own_inodes = fields.own_inodes;
 }
 
--- the two halves of the row on groups
+-- the two halves of what is accepted of groups
 pub record HasGroupSize (g : Geometry) : Type 0 where
   pub large : 64 ≤ g.ag_blocks
   pub log : g.ag_block_log ≤ 31
@@ -31,7 +31,7 @@ pub record HasGroupCount (g : Geometry) : Type 0 where
   pub all_hold : g.data_blocks ≤ g.ag_count * g.ag_blocks
   pub few : g.data_blocks < 2 ^ 48
 
--- the row on the log, but for the size of its sectors
+-- what is accepted of the log, but for the size of its sectors
 pub record HasLogPlace (g : Geometry) : Type 0 where
   pub not_zero : g.log_start ≢ 0
   pub least : 512 ≤ g.log_blocks

@@ -1,4 +1,4 @@
-//! The superblock's fields as they stand, before any row of the table of accepted fields is known to hold.
+//! The superblock's fields as they stand, before any of them is known to be accepted.
 
 ghost use Rattle.std.specs.Prelude.{◌≡◌, ◌+◌, ◌≤◌, length, slice_range};
 ghost use Rattle.xn_bytes.specs.Superblock.{geometry_of, has_feature};

@@ -1,10 +1,10 @@
 //! The superblock, the places of blocks and inodes that follow from it, and the cores of inodes.
 #![tactic(auto)]
 
+mod accepted;
 mod fields;
 mod inode_core;
 mod places;
-mod rows;
 mod superblock;
 
 pub use inode_core::{Core, CoreFault, EXTENTS_FORMAT, LOCAL_FORMAT};

@@ -1,15 +1,15 @@
 ghost use Rattle.std.specs.Prelude.{◌≡◌, ◌+◌, ◌*◌, ◌≤◌, ◌↔◌, IsTrue, MatchResult, MatchOption, length};
-ghost use Rattle.xn_bytes.specs.Superblock.{IsSuperblock, FirstRowBroken, geometry_of, sector_of_block, sector_of_inode, IsBlock, IsInode, IsOwnInode};
+ghost use Rattle.xn_bytes.specs.Superblock.{IsSuperblock, FirstFieldBroken, geometry_of, sector_of_block, sector_of_inode, IsBlock, IsInode, IsOwnInode};
 
 use crate::fields::Fields;
-use crate::rows;
+use crate::accepted;
 use std::marker::Model;
 
 const SECTORS_PER_BLOCK: u64 = 8;
 
 const INODES_PER_BLOCK: u64 = 8;
 
-/// The first row of the table of accepted superblock fields that fails, from 1 to 13.
+/// The first field of a superblock that is not accepted, from 1 to 13.
 #[derive(Clone, Copy, Debug, PartialEq, Eq)]
 pub struct GeomFault {
     pub field: u8,
@@ -35,13 +35,13 @@ impl Model for Super {
 }
 
 impl Super {
-    /// Reads sector 0 of an image of so many sectors, or names the least row that fails.
+    /// Reads sector 0 of an image of so many sectors, or names the least field that is not accepted.
     pub fn read(sector: &[u8], sectors: u64) -> Result<Super, GeomFault>
         ensures { MatchResult result
             (λ s. IsSuperblock sector.now sectors × (s ≡ geometry_of sector.now))
-            (λ fault. FirstRowBroken sector.now sectors fault.field) }
+            (λ fault. FirstFieldBroken sector.now sectors fault.field) }
     {
-        match broken_row(sector, sectors) {
+        match broken_field(sector, sectors) {
             Some(field) => Err(GeomFault { field }),
             None => Ok(Super {
                 fields: Fields::read(sector),
@@ -159,37 +159,37 @@ impl Super {
     }
 }
 
-/// The least row that fails.
-fn broken_row(sector: &[u8], sectors: u64) -> Option<u8>
-    ensures { MatchOption result (IsSuperblock sector.now sectors) (λ row. FirstRowBroken sector.now sectors row) }
+/// The least field that is not accepted.
+fn broken_field(sector: &[u8], sectors: u64) -> Option<u8>
+    ensures { MatchOption result (IsSuperblock sector.now sectors) (λ field. FirstFieldBroken sector.now sectors field) }
 {
-    if !rows::has_magic(sector, sectors) {
+    if !accepted::has_magic(sector, sectors) {
         return Some(1);
     }
     let fields = Fields::read(sector);
-    if !rows::has_right_checksum(sector) {
+    if !accepted::has_right_checksum(sector) {
         Some(2)
-    } else if !rows::has_version(sector) {
+    } else if !accepted::has_version(sector) {
         Some(3)
-    } else if !rows::has_block_size(sector) {
+    } else if !accepted::has_block_size(sector) {
         Some(4)
-    } else if !rows::has_sector_size(sector) {
+    } else if !accepted::has_sector_size(sector) {
         Some(5)
-    } else if !rows::has_inode_size(sector) {
+    } else if !accepted::has_inode_size(sector) {
         Some(6)
-    } else if !rows::has_groups(&fields) {
+    } else if !accepted::has_groups(&fields) {
         Some(7)
-    } else if !rows::has_directory_blocks(sector) {
+    } else if !accepted::has_directory_blocks(sector) {
         Some(8)
-    } else if !rows::has_log(sector, &fields) {
+    } else if !accepted::has_log(sector, &fields) {
         Some(9)
-    } else if !rows::has_incompat(sector) {
+    } else if !accepted::has_incompat(sector) {
         Some(10)
-    } else if !rows::has_read_only_compat(sector) {
+    } else if !accepted::has_read_only_compat(sector) {
         Some(11)
-    } else if !rows::has_root(&fields) {
+    } else if !accepted::has_root(&fields) {
         Some(12)
-    } else if !rows::has_length(&fields, sectors) {
+    } else if !accepted::has_length(&fields, sectors) {
         Some(13)
     } else {
         None

@@ -2,7 +2,7 @@
 use Rattle.std.specs.Prelude.{◌≡◌, ◌⊎◌, ℕ, ◌+◌, ◌*◌, ◌/◌, ◌%◌, ◌<◌, ◌≤◌, List, ◌++◌, length, take, drop, slice_range, Option, Some, None, IsSomeAnd, MatchOption, option_map}
 use Rattle.xn_bytes.specs.Numbers.{overlaid, sector_of}
 
--- A slice of so many bytes is a whole number of sectors, at least one, and ends within the machine.
+-- so many bytes from a sector on are one or more whole sectors of the machine
 pub record IsSectors (count sector bytes : ℕ) : Type 0 where
   pub whole : bytes % 512 ≡ 0
   pub some : 0 < bytes

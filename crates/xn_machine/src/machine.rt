@@ -1,4 +1,4 @@
-ghost use Rattle.std.specs.Prelude.{◌≡◌, ◌*◌, ◌++◌, ℕ, List, length, Option, IfSome, OnOk, OnErr, option_map};
+ghost use Rattle.std.specs.Prelude.{◌≡◌, ◌*◌, ◌^◌, ◌<◌, ◌≤◌, ◌++◌, ℕ, List, length, Option, IfSome, OnOk, OnErr, option_map};
 ghost use Rattle.xn_bytes.specs.Causes.{HasCause, counted};
 ghost use Rattle.xn_machine.specs.Device.{IsSectors, read_from, written_at, IsTorn, BothImages, TellsFront};
 
@@ -6,8 +6,8 @@ ghost use Rattle.xn_machine.specs.Device.{IsSectors, read_from, written_at, IsTo
 #[derive(Clone, Copy, Debug, PartialEq, Eq)]
 pub struct Failed;
 
-/// The device that holds the image, in sectors of 512 bytes, and the output, on which replies are told. They are one
-/// trait, so that a contract can speak of what had been told at the moment of a stop.
+/// The device that holds the image, in sectors of 512 bytes, together with the output, on which replies are told: a stop
+/// ends both at once.
 ///
 /// A machine that tells its sectors shows its image in contracts, and likewise its output. Its counts of faults never
 /// fall and stay below 2^64: a count rose where it grew or stands at 2^64 - 1.
@@ -32,7 +32,8 @@ pub trait Machine {
     /// How many sectors there are. The number never changes.
     fn sectors(&self) -> u64
         ensures count { result ≡ sector_count self.now }
-        ensures whole { IfSome (image self.now) (λ x. length x ≡ 512 * result) };
+        ensures whole { IfSome (image self.now) (λ x. length x ≡ 512 * result) }
+        ensures small { (read_faults self.now < 2 ^ 64) × (write_faults self.now < 2 ^ 64) × (say_faults self.now < 2 ^ 64) × (reads self.now < 2 ^ 64) };
 
     /// Fills the slice with the sectors from `sector` on. After `Failed` it holds anything.
     fn read(&mut self, sector: u64, into: &mut [u8]) -> Result<(), Failed>
@@ -43,8 +44,8 @@ pub trait Machine {
         ensures image { image self.new ≡ image self.old }
         ensures told { told self.new ≡ told self.old }
         ensures length { sector_count self.new ≡ sector_count self.old }
-        ensures write_faults { write_faults self.new ≡ write_faults self.old }
-        ensures say_faults { say_faults self.new ≡ say_faults self.old };
+        ensures write_faults { write_faults self.old ≤ write_faults self.new }
+        ensures say_faults { say_faults self.old ≤ say_faults self.new };
 
     /// Writes whole sectors from `sector` on. After `Failed` each of them reads as its old or its new bytes.
     fn write(&mut self, sector: u64, bytes: &[u8]) -> Result<(), Failed>
@@ -55,8 +56,8 @@ pub trait Machine {
         ensures reads { reads self.new ≡ reads self.old }
         ensures told { told self.new ≡ told self.old }
         ensures length { sector_count self.new ≡ sector_count self.old }
-        ensures read_faults { read_faults self.new ≡ read_faults self.old }
-        ensures say_faults { say_faults self.new ≡ say_faults self.old };
+        ensures read_faults { read_faults self.old ≤ read_faults self.new }
+        ensures say_faults { say_faults self.old ≤ say_faults self.new };
 
     /// Makes everything written lasting.
     fn sync(&mut self) -> Result<(), Failed>
@@ -65,8 +66,8 @@ pub trait Machine {
         ensures image { image self.new ≡ image self.old }
         ensures told { told self.new ≡ told self.old }
         ensures length { sector_count self.new ≡ sector_count self.old }
-        ensures read_faults { read_faults self.new ≡ read_faults self.old }
-        ensures say_faults { say_faults self.new ≡ say_faults self.old };
+        ensures read_faults { read_faults self.old ≤ read_faults self.new }
+        ensures say_faults { say_faults self.old ≤ say_faults self.new };
 
     /// Tells bytes on the output. After `Failed` a front of them was told.
     fn say(&mut self, bytes: &[u8]) -> Result<(), Failed>
@@ -76,6 +77,6 @@ pub trait Machine {
         ensures reads { reads self.new ≡ reads self.old }
         ensures image { image self.new ≡ image self.old }
         ensures length { sector_count self.new ≡ sector_count self.old }
-        ensures read_faults { read_faults self.new ≡ read_faults self.old }
-        ensures write_faults { write_faults self.new ≡ write_faults self.old };
+        ensures read_faults { read_faults self.old ≤ read_faults self.new }
+        ensures write_faults { write_faults self.old ≤ write_faults self.new };
 }

@@ -1,7 +1,7 @@
 use Rattle.std.proofs.Common.{ℕ, List, refl, subst, inl, inr}
 use Rattle.xn_bytes.specs.Superblock.{Geometry, geometry_of, HasMagic, HasRightChecksum, HasVersion, HasBlockSize, HasSectorSize, HasInodeSize, HasGroups, HasDirectoryBlocks, HasLog, HasIncompat, HasReadOnlyCompat, HasRoot, HasLength}
-use Rattle.xn_inode.proofs.TestLemmas.{holds, fails}
-use Rattle.xn_inode.proofs.superblock.broken_row.Goals as goal
+use Rattle.xn_bytes.proofs.TestLemmas.{holds, fails}
+use Rattle.xn_inode.proofs.superblock.broken_field.Goals as goal
 
 pub returns-then-not-has_right_checksum : goal.returns-then-not-has_right_checksum
 returns-then-not-has_right_checksum c =

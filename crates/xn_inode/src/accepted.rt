@@ -1,4 +1,4 @@
-//! The rows of the table of accepted superblock fields, each a test of its own.
+//! The accepted fields of a superblock, each a test of its own.
 
 ghost use Rattle.std.specs.Prelude.{◌≡◌, ◌*◌, ◌+◌, ◌-◌, ◌/◌, ◌%◌, ◌≤◌, ◌<◌, ◌↔◌, ◌^◌, length, IsTrue};
 ghost use Rattle.xn_bytes.specs.Superblock.{HasMagic, HasRightChecksum, HasVersion, HasBlockSize, HasSectorSize, HasInodeSize, HasGroups, HasDirectoryBlocks, HasLog, HasIncompat, HasReadOnlyCompat, HasRoot, HasLength};
