@@ -1,0 +1,4 @@
+pub mod Numbers
+pub mod OneEntry
+pub mod Entries
+pub mod Forms
