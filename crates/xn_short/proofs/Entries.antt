@@ -1,5 +1,5 @@
 -- The entries of a form, one after the other.
-use Rattle.std.proofs.Common.{◌≡◌, ℕ, zero, suc, ◌+◌, ◌-◌, ◌*◌, ◌^◌, ◌%◌, ◌<◌, ◌≤◌, Bool, true, false, cond, List, [], ◌∷◌, ◌++◌, length, get_or, slice_index, take, drop, Option, Some, None, Result, Ok, Err, refl, sym, ap, subst, ◌∙◌, append_assoc, arith, inl, inr}
+use Rattle.std.proofs.Common.{◌≡◌, ◌≢◌, ℕ, zero, suc, ◌+◌, ◌-◌, ◌*◌, ◌^◌, ◌%◌, ◌<◌, ◌≤◌, Bool, true, false, cond, List, [], ◌∷◌, ◌++◌, length, get_or, slice_index, take, drop, Option, Some, None, Result, Ok, Err, refl, sym, ap, subst, ◌∙◌, append_assoc, arith, inl, inr}
 use Rattle.std.specs.Prelude.{IsSome, unwrap_or, slice_range}
 use Rattle.std.specs.List.{flat_map, AllByRecursion}
 use Rattle.std.proofs.lemmas.Bool.{cases_lt}
@@ -18,6 +18,15 @@ pub length-entries_in : (count width : ℕ) (rest : List ℕ) → length (entrie
 unfolding entries_in
 length-entries_in zero width rest = refl
 length-entries_in (suc count) width rest = ap suc (length-entries_in count width (drop (entry_size width rest) rest))
+
+
+-- the entry at the front, and those behind it
+pub front_first : (now : List Entry) (left width : ℕ) (rest behind : List ℕ) (entry : Entry) → entries_in left width rest ≡ now → left ≢ 0 → entry ≡ entry_in width rest → behind ≡ drop (entry_size width rest) rest → now ≡ entry ∷ entries_in (left - 1) width behind
+unfolding entries_in
+front_first now left width rest behind entry all some entry_is behind_is =
+    let k : left ≡ suc (left - 1) = omega arith in
+    let split : entries_in left width rest ≡ entry_in width rest ∷ entries_in (left - 1) width (drop (entry_size width rest) rest) = ap (λ (n : ℕ). entries_in n width rest) k in
+    sym all ∙ split ∙ rw (entry_is, behind_is) refl
 
 -- ---- entries that pass
 

@@ -2,3 +2,5 @@ pub mod Numbers
 pub mod OneEntry
 pub mod Entries
 pub mod Forms
+pub mod Loop
+pub mod Verdicts

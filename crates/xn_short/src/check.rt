@@ -1,6 +1,6 @@
 //! Whether bytes are a short form, and where they first fail.
 
-ghost use Rattle.std.specs.Prelude.{◌≡◌, ◌+◌, ◌≤◌, ◌<◌, ℕ, ◌^◌, nat_le, length, drop, slice_index, IfOk, IfErr, Some};
+ghost use Rattle.std.specs.Prelude.{◌≡◌, ◌+◌, ◌≤◌, ◌<◌, ℕ, ◌^◌, nat_le, count_by, length, drop, slice_index, IfOk, IfErr, Some};
 ghost use Rattle.xn_bytes.specs.Entries.{data_entry_length};
 ghost use Rattle.xn_bytes.specs.Numbers.{number_at};
 ghost use Rattle.xn_bytes.specs.ShortDirectory.{short_fault, entry_fault, entries_end, first_position, end_limit, entry_size, width_in, wide_numbers, form_in, fits_position};
@@ -137,6 +137,7 @@ fn is_position(rest: &[u8], least: u64, limit: u64) -> bool
 }
 
 // How many inode numbers need eight bytes, the parent's included.
+
 fn wide_count(bytes: &[u8], width: NumberWidth) -> usize
     requires width { byte_count width ≡ width_in bytes.now }
     requires within { 2 + byte_count width ≤ length bytes.now }
@@ -144,8 +145,15 @@ fn wide_count(bytes: &[u8], width: NumberWidth) -> usize
     ensures { result ≡ wide_numbers (form_in bytes.now) }
 {
     let entries = ShortEntries::new(bytes[0], width, &bytes[2 + width.bytes()..]);
-    let parent = usize::from(is_wide(width.number_at(bytes, 2)));
-    parent + entries.filter(|entry| is_wide(entry.ino)).count()
+    usize::from(is_wide(width.number_at(bytes, 2))) + wide_among(entries)
+}
+
+fn wide_among(entries: ShortEntries<'_>) -> usize
+    requires { length entries < 256 }
+    ensures within { result < 256 }
+    ensures value { result ≡ count_by (λ entry. nat_le (2 ^ 32) entry.ino) entries.entry }
+{
+    entries.filter(|entry| is_wide(entry.ino)).count()
 }
 
 fn is_wide(ino: u64) -> bool
