@@ -4,7 +4,7 @@ use Rattle.std.proofs.Common.{◌≡◌, ℕ, zero, suc, ◌+◌, ◌-◌, ◌*�
 use Rattle.std.specs.Prelude.{count_by}
 use Rattle.std.specs.List.{flat_map, AllByRecursion}
 use Rattle.std.proofs.lemmas.Bool.{cases_eq, eqb-true, eq-eqb, ne_eqb, ltb-false, le-ltb, leb-false, not-false, cases_Bool, cond_both}
-use Rattle.std.proofs.lemmas.List.{append-nil, drop_at, drop_more, drop-drop, drop_all, take-append-drop, nil_from_length, length-append, length-drop}
+use Rattle.std.proofs.lemmas.List.{append-nil, drop_at, drop_more, drop-drop, drop_all, take-append-drop, take_rest, nil_from_length, length-append, length-drop}
 use Rattle.std.proofs.lemmas.List.Elements.{All-from_recursion, All-head, All-tail}
 use Rattle.std.proofs.lemmas.List.Sums.{sum_by-cons}
 use Rattle.byteorder.specs.Endian.{big_number, big_bytes}
@@ -168,3 +168,29 @@ spelling_read form lawful =
 
 pub holds_read : (bytes : List ℕ) (form : ShortForm) → ShortHolds bytes form → IsReadAs bytes form
 holds_read bytes form holds = subst (λ (t : List ℕ). IsReadAs t form) (sym holds.spelled) (spelling_read form holds.lawful)
+
+-- ---- what stands in bytes that hold a form
+
+pub stands_whole : (bytes : List ℕ) (form : ShortForm) (width bytes_of_width : ℕ) → ShortHolds bytes form → width ≡ width_in bytes → bytes_of_width ≡ width
+    → AreWhole (slice_index bytes 0) width (take (length bytes - (2 + bytes_of_width)) (drop (2 + bytes_of_width) bytes))
+stands_whole bytes form width bytes_of_width holds is same =
+    let h = has_no_fault bytes (holds_read bytes form holds).sound in
+    let whole : AreWhole (slice_index bytes 0) (width_in bytes) (drop (2 + width_in bytes) bytes) = entries_whole _ _ _ _ _ _ _ h.ended.is_end in
+    let here : AreWhole (slice_index bytes 0) width (drop (2 + width) bytes) = subst (λ (w : ℕ). AreWhole (slice_index bytes 0) w (drop (2 + w) bytes)) (sym is) whole in
+    let part : take (length bytes - (2 + bytes_of_width)) (drop (2 + bytes_of_width) bytes) ≡ drop (2 + width) bytes = take_rest bytes (2 + bytes_of_width) ∙ ap (λ (w : ℕ). drop (2 + w) bytes) same in
+    subst (λ (t : List ℕ). AreWhole (slice_index bytes 0) width t) (sym part) here
+
+pub entries_are : (bytes : List ℕ) (form : ShortForm) (width bytes_of_width : ℕ) (entries : List Entry) → entries ≡ entries_in (slice_index bytes 0) width (take (length bytes - (2 + bytes_of_width)) (drop (2 + bytes_of_width) bytes))
+    → width ≡ width_in bytes → bytes_of_width ≡ width → form_in bytes ≡ form → entries ≡ form.entries
+unfolding form_in
+entries_are bytes form width bytes_of_width entries read is same form_is =
+    let part : take (length bytes - (2 + bytes_of_width)) (drop (2 + bytes_of_width) bytes) ≡ drop (2 + width) bytes = take_rest bytes (2 + bytes_of_width) ∙ ap (λ (w : ℕ). drop (2 + w) bytes) same in
+    read
+    ∙ ap (entries_in (slice_index bytes 0) width) part
+    ∙ ap (λ (w : ℕ). entries_in (slice_index bytes 0) w (drop (2 + w) bytes)) is
+    ∙ ap (λ (f : ShortForm). f.entries) form_is
+
+pub no_form_with_fault : (bytes : List ℕ) (at : ℕ) → short_fault bytes ≡ Some at → (form : ShortForm) → ShortHolds bytes form → ⊥
+no_form_with_fault bytes at wrong form holds =
+    let sound = (holds_read bytes form holds).sound in
+    absurd cc

@@ -4,3 +4,4 @@ pub mod Entries
 pub mod Forms
 pub mod Loop
 pub mod Verdicts
+pub mod Finding

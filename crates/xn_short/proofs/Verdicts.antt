@@ -1,5 +1,5 @@
 -- What the checks of a form find, in one place.
-use Rattle.std.proofs.Common.{◌≡◌, ℕ, zero, suc, ◌+◌, ◌<◌, ◌≤◌, ◌^◌, cond, leb, ltb, eqb, not, false, List, length, slice_index, drop, Option, Some, None, Result, Ok, Err, refl, sym, ap, subst, ◌∙◌, arith}
+use Rattle.std.proofs.Common.{◌≡◌, ℕ, zero, suc, ◌+◌, ◌<◌, ◌≤◌, ◌^◌, Bool, cond, leb, ltb, eqb, not, false, List, length, slice_index, drop, Option, Some, None, Result, Ok, Err, refl, sym, ap, subst, ◌∙◌, arith}
 use Rattle.std.specs.Prelude.{count_by}
 use Rattle.std.proofs.lemmas.Bool.{eq-eqb, ne_eqb, lt-ltb, le-ltb}
 use Rattle.xn_bytes.specs.Numbers.{number_at}
@@ -30,8 +30,8 @@ pub at_nothing : (bytes : List ℕ) (width end : ℕ) → width ≡ width_in byt
 at_nothing bytes width end is long ended right all = fault_is bytes width (Ok end) is long ended ∙ rw (eq-eqb (wide_numbers (form_in bytes)) (slice_index bytes 1) right, le-ltb end (length bytes) all) refl
 
 -- the count of wide numbers, by its two parts
-pub wide_total : (bytes : List ℕ) (width parent parent_wide among : ℕ) (entries : List Entry) → width ≡ width_in bytes → parent ≡ number_at width 2 bytes → entries ≡ entries_in (slice_index bytes 0) width (drop (2 + width) bytes)
-    → parent_wide ≡ cond (leb (2 ^ 32) parent) 1 0 → among ≡ count_by (λ entry. leb (2 ^ 32) entry.ino) entries → parent_wide + among ≡ wide_numbers (form_in bytes)
+pub wide_total : (bytes : List ℕ) (width parent : ℕ) (wide : Bool) (parent_wide among : ℕ) (entries : List Entry) → width ≡ width_in bytes → parent ≡ number_at width 2 bytes → entries ≡ entries_in (slice_index bytes 0) width (drop (2 + width) bytes)
+    → wide ≡ leb (2 ^ 32) parent → parent_wide ≡ cond wide 1 0 → among ≡ count_by (λ entry. leb (2 ^ 32) entry.ino) entries → parent_wide + among ≡ wide_numbers (form_in bytes)
 unfolding form_in
-wide_total bytes width parent parent_wide among entries is parent_is entries_are first others =
-    rw (first, others, parent_is, entries_are) (ap (λ (w : ℕ). cond (leb (2 ^ 32) (number_at w 2 bytes)) 1 0 + count_by (λ entry. leb (2 ^ 32) entry.ino) (entries_in (slice_index bytes 0) w (drop (2 + w) bytes))) is)
+wide_total bytes width parent wide parent_wide among entries is parent_is entries_are wide_is first others =
+    rw (first, others, wide_is, parent_is, entries_are) (ap (λ (w : ℕ). cond (leb (2 ^ 32) (number_at w 2 bytes)) 1 0 + count_by (λ entry. leb (2 ^ 32) entry.ino) (entries_in (slice_index bytes 0) w (drop (2 + w) bytes))) is)
