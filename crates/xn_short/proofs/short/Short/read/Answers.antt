@@ -1,0 +1,15 @@
+use Rattle.std.proofs.Common.{◌≡◌, arith, Some, None, sym, ◌∙◌}
+use Rattle.xn_short.proofs.Forms.{form_read, holds_read, no_form_with_fault}
+use Rattle.xn_short.proofs.short.Short.read.Goals as goal
+
+pub returns-in_err-check-clause-only : goal.returns-in_err-check-clause-only
+returns-in_err-check-clause-only c = λ form holds. absurd (no_form_with_fault c.args.bytes.now c.in_err-check.field-0.0.at c.in_err-check.ensures form holds)
+
+pub invariant_of-result : goal.invariant_of-result
+invariant_of-result c = form_read c.args.bytes.now (λ i. omega (arith, c.type_inv.bytes i)) c.in_ok-check.ensures
+
+pub returns-clause-found : goal.returns-clause-found
+returns-clause-found c = form_read c.args.bytes.now (λ i. omega (arith, c.type_inv.bytes i)) c.in_ok-check.ensures
+
+pub returns-clause-only : goal.returns-clause-only
+returns-clause-only c = λ form holds. (holds_read c.args.bytes.now form holds).read

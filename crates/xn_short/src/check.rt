@@ -1,0 +1,163 @@
+//! Whether bytes are a short form, and where they first fail.
+
+ghost use Rattle.std.specs.Prelude.{◌≡◌, ◌+◌, ◌≤◌, ◌<◌, ℕ, ◌^◌, nat_le, count_by, length, drop, slice_index, IfOk, IfErr, Some};
+ghost use Rattle.xn_bytes.specs.Entries.{data_entry_length};
+ghost use Rattle.xn_bytes.specs.Numbers.{number_at};
+ghost use Rattle.xn_bytes.specs.ShortDirectory.{short_fault, entry_fault, entries_end, first_position, end_limit, entry_size, width_in, wide_numbers, form_in, fits_position};
+ghost use Rattle.xn_short.specs.Widths.{byte_count};
+ghost use Rattle.xn_short.specs.Whole.{AreWhole};
+ghost use Rattle.xn_short.specs.Checks.{FindsFault, FindsEnd};
+
+use crate::entry::ShortEntries;
+use crate::fault::ShortFault;
+use crate::width::NumberWidth;
+use xn_bytes::{Kind, u16_at};
+
+/// The least position that an entry can have: dot and dotdot stand before it in a data block.
+const FIRST_POSITION: u64 = 96;
+
+/// The size of a directory's block.
+const BLOCK: u64 = 4096;
+
+/// The size of an entry in the table at a block's end, and of the counts behind that table.
+const TABLE_ENTRY: u64 = 8;
+const TABLE_COUNTS: u64 = 8;
+
+fn fault_at(at: usize) -> ShortFault
+    ensures { result.at ≡ at }
+{
+    ShortFault { at: at as u64 }
+}
+
+/// Whether the bytes are a short form; where they are none, the first place at which they fail.
+pub(crate) fn check(bytes: &[u8]) -> Result<(), ShortFault>
+    ensures { FindsFault (short_fault bytes.now) result }
+{
+    let width = width_of(bytes)?;
+    let end = end_of_entries(bytes, width)?;
+    if wide_count(bytes, width) != usize::from(bytes[1]) {
+        return Err(fault_at(1));
+    }
+    if end < bytes.len() {
+        return Err(fault_at(end));
+    }
+    Ok(())
+}
+
+// The width of the inode numbers, once the bytes reach the end of the parent.
+#[tactic(auto, unfolding(xn_bytes::specs::ShortDirectory::short_fault))]
+fn width_of(bytes: &[u8]) -> Result<NumberWidth, ShortFault>
+    ensures width { IfOk result (λ width. byte_count width ≡ width_in bytes.now) }
+    ensures within { IfOk result (λ width. 2 + byte_count width ≤ length bytes.now) }
+    ensures fault { IfErr result (λ fault. short_fault bytes.now ≡ Some fault.at) }
+{
+    if bytes.len() < 2 {
+        return Err(fault_at(bytes.len()));
+    }
+    let width = NumberWidth::for_wide_numbers(bytes[1]);
+    if bytes.len() < 2 + width.bytes() {
+        return Err(fault_at(bytes.len()));
+    }
+    Ok(width)
+}
+
+// The place where the entries end.
+fn end_of_entries(bytes: &[u8], width: NumberWidth) -> Result<usize, ShortFault>
+    requires { 2 + byte_count width ≤ length bytes.now }
+    ensures { FindsEnd (entries_end (slice_index bytes.now 0) (byte_count width) first_position (end_limit (slice_index bytes.now 0)) (2 + byte_count width) (drop (2 + byte_count width) bytes.now)) result }
+{
+    let count = bytes[0];
+    let limit = end_limit(count);
+    let mut least = FIRST_POSITION;
+    let mut at = 2 + width.bytes();
+    for _ in 0..count {
+        check_entry(&bytes[at..], at, width, least, limit)?;
+        least = end_in_block(&bytes[at..]);
+        at += 4 + usize::from(bytes[at]) + width.bytes();
+    }
+    Ok(at)
+}
+
+// Where the last entry has to end in a block, so that the table of so many entries, of dot and of dotdot has place
+// behind it.
+fn end_limit(count: u8) -> u64
+    ensures { result ≡ end_limit count }
+{
+    BLOCK - (TABLE_ENTRY * (u64::from(count) + 2) + TABLE_COUNTS)
+}
+
+// How many bytes the entry of a name takes in a data block.
+fn block_length(name_length: u8) -> u64
+    ensures { result ≡ data_entry_length name_length }
+{
+    (12 + u64::from(name_length)).next_multiple_of(8)
+}
+
+// Where the entry at the front would end in a data block.
+fn end_in_block(rest: &[u8]) -> u64
+    requires { 3 ≤ length rest.now }
+    ensures { result ≡ number_at 2 1 rest.now + data_entry_length (slice_index rest.now 0) }
+{
+    u64::from(u16_at(rest, 1)) + block_length(rest[0])
+}
+
+// The entry at the front of `rest`, which begins at the place `at`.
+#[tactic(auto, unfolding(xn_bytes::specs::ShortDirectory::entry_fault))]
+fn check_entry(rest: &[u8], at: usize, width: NumberWidth, least: u64, limit: u64) -> Result<(), ShortFault>
+    requires { at + length rest.now < 2 ^ 63 }
+    ensures { FindsFault (entry_fault (byte_count width) least limit at rest.now) result }
+{
+    let missing = fault_at(at + rest.len());
+    if rest.len() < 3 {
+        return Err(missing);
+    }
+    if !is_position(rest, least, limit) {
+        return Err(fault_at(at + 1));
+    }
+    let kind_place = 3 + usize::from(rest[0]);
+    if rest.len() < kind_place + 1 {
+        return Err(missing);
+    }
+    if Kind::from_number(rest[kind_place]).is_none() {
+        return Err(fault_at(at + kind_place));
+    }
+    if rest.len() < kind_place + 1 + width.bytes() {
+        return Err(missing);
+    }
+    Ok(())
+}
+
+// Whether the position of the entry at the front may stand there.
+fn is_position(rest: &[u8], least: u64, limit: u64) -> bool
+    requires { 3 ≤ length rest.now }
+    ensures { result ≡ fits_position least limit (slice_index rest.now 0) (number_at 2 1 rest.now) }
+{
+    let position = u64::from(u16_at(rest, 1));
+    least <= position && position % 8 == 0 && end_in_block(rest) <= limit
+}
+
+// How many inode numbers need eight bytes, the parent's included.
+
+fn wide_count(bytes: &[u8], width: NumberWidth) -> usize
+    requires width { byte_count width ≡ width_in bytes.now }
+    requires within { 2 + byte_count width ≤ length bytes.now }
+    requires whole { AreWhole (slice_index bytes.now 0) (byte_count width) (drop (2 + byte_count width) bytes.now) }
+    ensures { result ≡ wide_numbers (form_in bytes.now) }
+{
+    let entries = ShortEntries::new(bytes[0], width, &bytes[2 + width.bytes()..]);
+    usize::from(is_wide(width.number_at(bytes, 2))) + wide_among(entries)
+}
+
+fn wide_among(entries: ShortEntries<'_>) -> usize
+    requires { length entries < 256 }
+    ensures within { result < 256 }
+    ensures value { result ≡ count_by (λ entry. nat_le (2 ^ 32) entry.ino) entries.entry }
+{
+    entries.filter(|entry| is_wide(entry.ino)).count()
+}
+
+fn is_wide(ino: u64) -> bool
+    ensures { result ≡ nat_le (2 ^ 32) ino }
+{
+    ino > u64::from(u32::MAX)
+}
