@@ -2,7 +2,11 @@
 #![tactic(auto)]
 
 mod machine;
+mod memory;
+mod memory_source;
 mod source;
 
 pub use machine::{Failed, Machine};
+pub use memory::MemMachine;
+pub use memory_source::MemSource;
 pub use source::Source;
