@@ -10,3 +10,6 @@ pub use machine::{Failed, Machine};
 pub use memory::MemMachine;
 pub use memory_source::MemSource;
 pub use source::Source;
+
+#[cfg(test)]
+mod tests;
