@@ -2,7 +2,14 @@
 #![tactic(auto)]
 
 mod machine;
+mod memory;
+mod memory_source;
 mod source;
 
 pub use machine::{Failed, Machine};
+pub use memory::MemMachine;
+pub use memory_source::MemSource;
 pub use source::Source;
+
+#[cfg(test)]
+mod tests;
