@@ -1,5 +1,5 @@
 -- The fields of a machine in memory, as its contracts see them, and what its memory is enough for.
-use Rattle.std.specs.Prelude.{◌≡◌, ℕ, ◌+◌, ◌%◌, ◌≤◌, length}
+use Rattle.std.specs.Prelude.{◌≡◌, ℕ, ◌+◌, ◌%◌, ◌^◌, ◌<◌, ◌≤◌, length}
 use Rattle.std.specs.Vec.{vec_len, vec_capacity}
 use Rattle.xn_machine.specs.Memory.{MachineState}
 use Rattle.xn_machine.specs.declared.memory.MemMachine.TheInside.{Inside}
@@ -30,3 +30,4 @@ pub record HasRoom (m : Inside) : Type 0 where
   pub calls : m.calls ≤ vec_capacity m.done
   pub written : vec_len m.written + m.room ≤ vec_capacity m.written
   pub told : vec_len m.told + m.room ≤ vec_capacity m.told
+  pub counts : (m.reads < 2 ^ 64) × (m.read_faults < 2 ^ 64) × (m.write_faults < 2 ^ 64) × (m.say_faults < 2 ^ 64)
