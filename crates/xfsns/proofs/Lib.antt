@@ -1,1 +1,3 @@
 pub mod WordLemmas
+pub mod HomeLemmas
+pub mod ListingLemmas

@@ -2,3 +2,4 @@ pub mod NumberLemmas
 pub mod Registers
 pub mod TableLemmas
 pub mod TestLemmas
+pub mod SuperblockLemmas

@@ -17,6 +17,6 @@ pub use checksum::{Crc, checksum_of, has_checksum};
 pub use escapes::escape;
 pub use kind::Kind;
 pub use memory::Memory;
-pub use name::{Name, NameFault, check_name};
+pub use name::{Name, NameFault, is_name};
 pub use numbers::{little_u32_at, u8_at, u16_at, u32_at, u64_at};
 pub use status::Status;

@@ -1,4 +1,4 @@
-ghost use Rattle.std.specs.Prelude.{◌≡◌, MatchResult};
+ghost use Rattle.std.specs.Prelude.{◌≡◌, ◌≢◌, ◌↔◌, IsTrue, Some, is_none, MatchOption, MatchResult};
 ghost use Rattle.xn_bytes.specs.Names.{IsName, IsNameFault};
 
 use std::alloc::Global;
@@ -41,7 +41,9 @@ impl Name {
     pub fn read(alloc: Global, bytes: &[u8]) -> Result<Name, NameFault>
         ensures { MatchResult result (λ name. (name ≡ bytes.now) × IsName bytes.now) (IsNameFault bytes.now) }
     {
-        check_name(bytes)?;
+        if let Some(fault) = fault_of(bytes) {
+            return Err(fault);
+        }
         match Vec::from_slice(alloc, bytes) {
             Ok(bytes) => Ok(Name { bytes }),
             Err(_) => Err(NameFault::Memory),
@@ -57,21 +59,30 @@ impl Name {
     }
 }
 
-/// Whether bytes are a name; where they are none, the first cause. It takes no memory.
-pub fn check_name(bytes: &[u8]) -> Result<(), NameFault>
-    ensures { MatchResult result (λ _. IsName bytes.now) (IsNameFault bytes.now) }
+/// Whether bytes are a name. It takes no memory.
+pub fn is_name(bytes: &[u8]) -> bool
+    ensures { IsTrue result ↔ IsName bytes.now }
+{
+    fault_of(bytes).is_none()
+}
+
+/// The first cause for which bytes are no name.
+fn fault_of(bytes: &[u8]) -> Option<NameFault>
+    ensures first { MatchOption result (IsName bytes.now) (IsNameFault bytes.now) }
+    ensures not_memory { result ≢ Some NameFault.Memory }
+    ensures decides { IsTrue (is_none result) ↔ IsName bytes.now }
 {
     if bytes.is_empty() {
-        return Err(NameFault::Empty);
+        return Some(NameFault::Empty);
     }
     if bytes.len() > 255 {
-        return Err(NameFault::Long);
+        return Some(NameFault::Long);
     }
     if let Some(at) = bytes.iter().position(|byte| *byte == 0 || *byte == b'/') {
-        return Err(NameFault::Byte { at: at as u64 });
+        return Some(NameFault::Byte { at: at as u64 });
     }
     if bytes == b".".as_slice() || bytes == b"..".as_slice() {
-        return Err(NameFault::Dots);
+        return Some(NameFault::Dots);
     }
-    Ok(())
+    None
 }
