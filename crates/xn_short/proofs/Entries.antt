@@ -19,7 +19,6 @@ unfolding entries_in
 length-entries_in zero width rest = refl
 length-entries_in (suc count) width rest = ap suc (length-entries_in count width (drop (entry_size width rest) rest))
 
-
 -- the entry at the front, and those behind it
 pub front_first : (now : List Entry) (left width : ℕ) (rest behind : List ℕ) (entry : Entry) → entries_in left width rest ≡ now → left ≢ 0 → entry ≡ entry_in width rest → behind ≡ drop (entry_size width rest) rest → now ≡ entry ∷ entries_in (left - 1) width behind
 unfolding entries_in
@@ -38,10 +37,9 @@ pub entries_whole : (count width least limit at : ℕ) (rest : List ℕ) (end : 
 unfolding entries_end
 entries_whole zero width least limit at rest end e = tt
 entries_whole (suc count) width least limit at rest end e =
-    let both = no_fault _ _ end e in
-    (
-        (entry_passed width least limit at rest both.0).whole,
-        entries_whole count width (number_at 2 1 rest + data_entry_length (slice_index rest 0)) limit (at + entry_size width rest) (drop (entry_size width rest) rest) end both.1,
+    let both = no_fault _ _ end e in (
+      (entry_passed width least limit at rest both.0).whole,
+      entries_whole count width (number_at 2 1 rest + data_entry_length (slice_index rest 0)) limit (at + entry_size width rest) (drop (entry_size width rest) rest) end both.1,
     )
 
 -- what is known of entries that were read to the end

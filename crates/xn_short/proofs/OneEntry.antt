@@ -57,11 +57,11 @@ spelled_as : (width n k : ℕ) (position name ino : List ℕ) (entry : Entry) (r
 spelled_as width n k position name ino entry rest whole e0 e1 e2 e3 e4 w =
     w
     ∙ ap (λ (t : List ℕ). t ++ rest) (
-        ap (λ (x : ℕ). x ∷ (position ++ name ++ k ∷ ino)) (sym e0)
-        ∙ ap (λ (x : List ℕ). length entry.name ∷ (x ++ name ++ k ∷ ino)) (sym e1)
-        ∙ ap (λ (x : List ℕ). length entry.name ∷ (big_bytes 2 entry.position ++ x ++ k ∷ ino)) (sym e2)
-        ∙ ap (λ (x : ℕ). length entry.name ∷ (big_bytes 2 entry.position ++ entry.name ++ x ∷ ino)) (sym e3)
-        ∙ ap (λ (x : List ℕ). length entry.name ∷ (big_bytes 2 entry.position ++ entry.name ++ kind_number entry.kind ∷ x)) (sym e4)
+    ap (λ (x : ℕ). x ∷ (position ++ name ++ k ∷ ino)) (sym e0)
+    ∙ ap (λ (x : List ℕ). length entry.name ∷ (x ++ name ++ k ∷ ino)) (sym e1)
+    ∙ ap (λ (x : List ℕ). length entry.name ∷ (big_bytes 2 entry.position ++ x ++ k ∷ ino)) (sym e2)
+    ∙ ap (λ (x : ℕ). length entry.name ∷ (big_bytes 2 entry.position ++ entry.name ++ x ∷ ino)) (sym e3)
+    ∙ ap (λ (x : List ℕ). length entry.name ∷ (big_bytes 2 entry.position ++ entry.name ++ kind_number entry.kind ∷ x)) (sym e4)
     )
 
 pub entry_spelled : (width : ℕ) (rest : List ℕ) → IsWidth width → IsBytes rest → IsWhole width rest → rest ≡ entry_spelling width (entry_in width rest) ++ drop (entry_size width rest) rest
