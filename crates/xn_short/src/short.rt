@@ -1,4 +1,4 @@
-ghost use Rattle.std.specs.Prelude.{◌≡◌, ◌↔◌, IfOk, IsOkAnd, IsNone, IfSome};
+ghost use Rattle.std.specs.Prelude.{◌≡◌, ◌↔◌, ◌≤◌, length, IfOk, IfErr, IsOkAnd, IsNone, IfSome};
 ghost use Rattle.xn_bytes.specs.ShortDirectory.{ShortForm, IsShortForm, ShortHolds, short_fault};
 ghost use Rattle.xn_short.specs.Checks.{FindsFault};
 ghost use Rattle.xn_short.specs.Viewed.{entry_of};
@@ -42,6 +42,7 @@ impl<'a> Short<'a> {
         ensures only { (form : ShortForm) → ShortHolds bytes.now form → IsOkAnd result (λ short. short ≡ form) }
         // Which fault it is.
         ensures exact { FindsFault (short_fault bytes.now) result }
+        ensures within { IfErr result (λ fault. fault.at ≤ length bytes.now) }
     {
         check(bytes)?;
         Ok(Short { bytes })
