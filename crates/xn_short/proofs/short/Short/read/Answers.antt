@@ -1,4 +1,4 @@
-use Rattle.std.proofs.Common.{◌≡◌, arith, Some, None, sym, ◌∙◌}
+use Rattle.std.proofs.Common.{arith}
 use Rattle.std.proofs.lemmas.Result.{err_from_is_err_and}
 use Rattle.xn_short.proofs.Forms.{form_read, holds_read, no_form_with_fault}
 use Rattle.xn_short.proofs.Places.{fault_within}
