@@ -1,15 +1,13 @@
 -- The entries of a form, one after the other.
-use Rattle.std.proofs.Common.{◌≡◌, ◌≢◌, ℕ, zero, suc, ◌+◌, ◌-◌, ◌*◌, ◌^◌, ◌%◌, ◌<◌, ◌≤◌, Bool, true, false, cond, List, [], ◌∷◌, ◌++◌, length, get_or, slice_index, take, drop, Option, Some, None, Result, Ok, Err, refl, sym, ap, subst, ◌∙◌, append_assoc, arith, inl, inr}
-use Rattle.std.specs.Prelude.{IsSome, unwrap_or, slice_range}
+use Rattle.std.proofs.Common.{◌≡◌, ◌≢◌, ℕ, zero, suc, ◌+◌, ◌-◌, ◌^◌, ◌%◌, ◌<◌, ◌≤◌, List, [], ◌∷◌, ◌++◌, length, slice_index, drop, Option, Some, None, Result, Ok, refl, sym, ap, subst, ◌∙◌, append_assoc, arith}
+use Rattle.std.specs.Prelude.{slice_range}
 use Rattle.std.specs.List.{flat_map, AllByRecursion}
-use Rattle.std.proofs.lemmas.Bool.{cases_lt}
-use Rattle.std.proofs.lemmas.List.{drop_at, length-append, length-take, length-take-le, length-drop, get_or-drop, get_or_default}
+use Rattle.std.proofs.lemmas.List.{length-append, length-take-le, length-drop, get_or_default}
 use Rattle.std.proofs.lemmas.List.Concat.{flat_map-cons}
-use Rattle.byteorder.specs.Endian.{big_number, big_bytes}
 use Rattle.byteorder.specs.Numbers.{big_from-lt}
 use Rattle.xn_bytes.specs.Numbers.{number_at}
 use Rattle.xn_bytes.specs.Entries.{Entry, data_entry_length}
-use Rattle.xn_bytes.specs.ShortDirectory.{entry_spelling, entry_in, entries_in, entry_size, entry_fault, entries_end, unless_fault, end_of, AreApart, last_end, FitsEntry}
+use Rattle.xn_bytes.specs.ShortDirectory.{entry_spelling, entry_in, entries_in, entry_size, entries_end, unless_fault, end_of, AreApart, last_end, FitsEntry}
 use Rattle.xn_short.specs.Whole.{IsWhole, AreWhole}
 use Rattle.xn_short.proofs.Numbers.{IsBytes, IsBytes-drop, IsBytes-take, IsWidth}
 use Rattle.xn_short.proofs.OneEntry.{entry_spelled, StandsIn, entry_stands, FitsHere, entry_passed, entry_passes}
@@ -18,7 +16,6 @@ pub length-entries_in : (count width : ℕ) (rest : List ℕ) → length (entrie
 unfolding entries_in
 length-entries_in zero width rest = refl
 length-entries_in (suc count) width rest = ap suc (length-entries_in count width (drop (entry_size width rest) rest))
-
 
 -- the entry at the front, and those behind it
 pub front_first : (now : List Entry) (left width : ℕ) (rest behind : List ℕ) (entry : Entry) → entries_in left width rest ≡ now → left ≢ 0 → entry ≡ entry_in width rest → behind ≡ drop (entry_size width rest) rest → now ≡ entry ∷ entries_in (left - 1) width behind
@@ -38,10 +35,9 @@ pub entries_whole : (count width least limit at : ℕ) (rest : List ℕ) (end : 
 unfolding entries_end
 entries_whole zero width least limit at rest end e = tt
 entries_whole (suc count) width least limit at rest end e =
-    let both = no_fault _ _ end e in
-    (
-        (entry_passed width least limit at rest both.0).whole,
-        entries_whole count width (number_at 2 1 rest + data_entry_length (slice_index rest 0)) limit (at + entry_size width rest) (drop (entry_size width rest) rest) end both.1,
+    let both = no_fault _ _ end e in (
+      (entry_passed width least limit at rest both.0).whole,
+      entries_whole count width (number_at 2 1 rest + data_entry_length (slice_index rest 0)) limit (at + entry_size width rest) (drop (entry_size width rest) rest) end both.1,
     )
 
 -- what is known of entries that were read to the end

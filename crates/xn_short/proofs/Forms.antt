@@ -1,20 +1,20 @@
 -- The two laws of forms: bytes with no fault spell the form that is read in them, and what spells a form has no fault
 -- and is read as that form.
-use Rattle.std.proofs.Common.{◌≡◌, ℕ, zero, suc, ◌+◌, ◌-◌, ◌*◌, ◌^◌, ◌%◌, ◌<◌, ◌≤◌, Bool, true, false, cond, not, leb, ltb, eqb, List, [], ◌∷◌, ◌++◌, length, get_or, slice_index, take, drop, Option, Some, None, Result, Ok, Err, All, refl, sym, ap, subst, ◌∙◌, append_assoc, arith, inl, inr}
+use Rattle.std.proofs.Common.{◌≡◌, ℕ, ◌+◌, ◌-◌, ◌^◌, ◌<◌, ◌≤◌, Bool, true, false, cond, leb, ltb, eqb, List, [], ◌∷◌, ◌++◌, length, slice_index, take, drop, Option, Some, None, Result, Ok, Err, All, refl, sym, ap, subst, ◌∙◌, arith, inl, inr}
 use Rattle.std.specs.Prelude.{count_by}
 use Rattle.std.specs.List.{flat_map, AllByRecursion}
-use Rattle.std.proofs.lemmas.Bool.{cases_eq, eqb-true, eq-eqb, ne_eqb, ltb-false, le-ltb, leb-false, not-false, cases_Bool, cond_both}
-use Rattle.std.proofs.lemmas.List.{append-nil, drop_at, drop_more, drop-drop, drop_all, take-append-drop, take_rest, nil_from_length, length-append, length-drop}
+use Rattle.std.proofs.lemmas.Bool.{cases_eq, eqb-true, eq-eqb, ne_eqb, ltb-false, le-ltb, leb-false, not-false, cond_both}
+use Rattle.std.proofs.lemmas.List.{append-nil, drop_at, drop_more, drop-drop, take-append-drop, take_rest, nil_from_length, length-append, length-drop}
 use Rattle.std.proofs.lemmas.List.Elements.{All-from_recursion, All-head, All-tail}
 use Rattle.std.proofs.lemmas.List.Sums.{sum_by-cons}
-use Rattle.byteorder.specs.Endian.{big_number, big_bytes}
+use Rattle.byteorder.specs.Endian.{big_bytes}
 use Rattle.byteorder.specs.Numbers.{big_from-lt, big_number-reads_back, length-bytes_high_first}
 use Rattle.xn_bytes.specs.Numbers.{number_at}
 use Rattle.xn_bytes.specs.Entries.{Entry}
-use Rattle.xn_bytes.specs.ShortDirectory.{ShortForm, wide_numbers, number_width, entry_spelling, short_spelling, first_position, last_end, FitsEntry, IsShortForm, ShortHolds, entries_in, entries_end, width_in, form_in, end_limit, after_entries, short_fault}
+use Rattle.xn_bytes.specs.ShortDirectory.{ShortForm, wide_numbers, number_width, entry_spelling, short_spelling, first_position, FitsEntry, IsShortForm, ShortHolds, entries_in, entries_end, width_in, form_in, end_limit, after_entries, short_fault}
 use Rattle.xn_short.specs.Whole.{AreWhole}
 use Rattle.xn_short.proofs.Numbers.{IsBytes, IsBytes-drop, IsWidth, four_bytes, eight_bytes}
-use Rattle.xn_short.proofs.Entries.{length-entries_in, entries_whole, entries_read, AreRead, FitsWidth, entries_again, Again}
+use Rattle.xn_short.proofs.Entries.{length-entries_in, entries_whole, entries_read, FitsWidth, entries_again}
 
 is_width : (count : ℕ) → IsWidth (number_width count)
 is_width count = cond_both (eqb count 0) 4 8 IsWidth (λ _. four_bytes) (λ _. eight_bytes)

@@ -5,3 +5,4 @@ pub mod Forms
 pub mod Loop
 pub mod Verdicts
 pub mod Finding
+pub mod Places

@@ -1,9 +1,9 @@
 -- Checking entries one after the other, as a loop does.
-use Rattle.std.proofs.Common.{◌≡◌, ℕ, zero, suc, ◌+◌, ◌-◌, ◌<◌, ◌≤◌, List, length, slice_index, take, drop, Option, Some, None, Result, Ok, Err, refl, sym, ap, subst, ◌∙◌, arith}
+use Rattle.std.proofs.Common.{◌≡◌, ℕ, suc, ◌+◌, ◌-◌, ◌<◌, ◌≤◌, List, length, slice_index, drop, Some, None, Result, Ok, Err, refl, sym, ap, ◌∙◌, arith}
 use Rattle.std.proofs.lemmas.List.{get_or-drop, drop-drop, length-drop}
 use Rattle.xn_bytes.specs.Numbers.{number_at}
 use Rattle.xn_bytes.specs.Entries.{data_entry_length}
-use Rattle.xn_bytes.specs.ShortDirectory.{entry_size, entry_fault, entries_end, unless_fault}
+use Rattle.xn_bytes.specs.ShortDirectory.{entry_size, entry_fault, entries_end}
 use Rattle.xn_short.proofs.OneEntry.{entry_passed}
 
 first_at : (at : ℕ) (bytes : List ℕ) → slice_index (drop at bytes) 0 ≡ slice_index bytes at

@@ -1,8 +1,8 @@
 -- One entry: its spelling is read as the entry, and what is read is spelled so.
-use Rattle.std.proofs.Common.{◌≡◌, ℕ, zero, suc, ◌+◌, ◌-◌, ◌*◌, ◌%◌, ◌^◌, ◌<◌, ◌≤◌, Bool, true, false, cond, not, ◌&&◌, ltb, leb, eqb, List, [], ◌∷◌, ◌++◌, length, get_or, slice_index, take, drop, Option, Some, None, refl, sym, ap, subst, ◌∙◌, append_assoc, arith}
+use Rattle.std.proofs.Common.{◌≡◌, ℕ, zero, suc, ◌+◌, ◌-◌, ◌%◌, ◌^◌, ◌<◌, ◌≤◌, Bool, true, false, cond, ltb, eqb, List, ◌∷◌, ◌++◌, length, slice_index, take, drop, Option, Some, None, refl, sym, ap, subst, ◌∙◌, append_assoc, arith}
 use Rattle.std.specs.Prelude.{IsSome, is_none, unwrap_or, slice_range}
-use Rattle.std.proofs.lemmas.Bool.{ltb-false, le-ltb, leb-true, le-leb, eqb-true, eq-eqb, ne_eqb, true≢false, and_parts, not-true, not-false}
-use Rattle.std.proofs.lemmas.List.{take_at, drop_at, drop-drop, drop_more, take-append-drop, length-append, length-take, length-take-le, length-drop, get_or-drop}
+use Rattle.std.proofs.lemmas.Bool.{ltb-false, le-ltb, leb-true, le-leb, eqb-true, eq-eqb, ne_eqb, true≢false, and_parts, not-false}
+use Rattle.std.proofs.lemmas.List.{take_at, drop_at, drop-drop, drop_more, take-append-drop, length-append, length-take-le, length-drop, get_or-drop}
 use Rattle.byteorder.specs.Endian.{big_number, big_bytes}
 use Rattle.byteorder.specs.Numbers.{big_number-reads_back, length-bytes_high_first}
 use Rattle.xn_bytes.specs.declared.kind.Kind.{Kind}
@@ -57,11 +57,11 @@ spelled_as : (width n k : ℕ) (position name ino : List ℕ) (entry : Entry) (r
 spelled_as width n k position name ino entry rest whole e0 e1 e2 e3 e4 w =
     w
     ∙ ap (λ (t : List ℕ). t ++ rest) (
-        ap (λ (x : ℕ). x ∷ (position ++ name ++ k ∷ ino)) (sym e0)
-        ∙ ap (λ (x : List ℕ). length entry.name ∷ (x ++ name ++ k ∷ ino)) (sym e1)
-        ∙ ap (λ (x : List ℕ). length entry.name ∷ (big_bytes 2 entry.position ++ x ++ k ∷ ino)) (sym e2)
-        ∙ ap (λ (x : ℕ). length entry.name ∷ (big_bytes 2 entry.position ++ entry.name ++ x ∷ ino)) (sym e3)
-        ∙ ap (λ (x : List ℕ). length entry.name ∷ (big_bytes 2 entry.position ++ entry.name ++ kind_number entry.kind ∷ x)) (sym e4)
+    ap (λ (x : ℕ). x ∷ (position ++ name ++ k ∷ ino)) (sym e0)
+    ∙ ap (λ (x : List ℕ). length entry.name ∷ (x ++ name ++ k ∷ ino)) (sym e1)
+    ∙ ap (λ (x : List ℕ). length entry.name ∷ (big_bytes 2 entry.position ++ x ++ k ∷ ino)) (sym e2)
+    ∙ ap (λ (x : ℕ). length entry.name ∷ (big_bytes 2 entry.position ++ entry.name ++ x ∷ ino)) (sym e3)
+    ∙ ap (λ (x : List ℕ). length entry.name ∷ (big_bytes 2 entry.position ++ entry.name ++ kind_number entry.kind ∷ x)) (sym e4)
     )
 
 pub entry_spelled : (width : ℕ) (rest : List ℕ) → IsWidth width → IsBytes rest → IsWhole width rest → rest ≡ entry_spelling width (entry_in width rest) ++ drop (entry_size width rest) rest

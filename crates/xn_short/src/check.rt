@@ -10,6 +10,7 @@ ghost use Rattle.xn_short.specs.Checks.{FindsFault, FindsEnd};
 
 use crate::entry::ShortEntries;
 use crate::fault::ShortFault;
+use crate::layout::{NAME, PARENT, POSITION};
 use crate::width::NumberWidth;
 use xn_bytes::{Kind, u16_at};
 
@@ -19,8 +20,10 @@ const FIRST_POSITION: u64 = 96;
 /// The size of a directory's block.
 const BLOCK: u64 = 4096;
 
-/// The size of an entry in the table at a block's end, and of the counts behind that table.
+/// The size of an entry in the table at a block's end, which has one for each name, dot and dotdot included.
 const TABLE_ENTRY: u64 = 8;
+
+/// The size of the counts behind that table.
 const TABLE_COUNTS: u64 = 8;
 
 fn fault_at(at: usize) -> ShortFault
@@ -55,7 +58,7 @@ fn width_of(bytes: &[u8]) -> Result<NumberWidth, ShortFault>
         return Err(fault_at(bytes.len()));
     }
     let width = NumberWidth::for_wide_numbers(bytes[1]);
-    if bytes.len() < 2 + width.bytes() {
+    if bytes.len() < PARENT + width.bytes() {
         return Err(fault_at(bytes.len()));
     }
     Ok(width)
@@ -69,17 +72,16 @@ fn end_of_entries(bytes: &[u8], width: NumberWidth) -> Result<usize, ShortFault>
     let count = bytes[0];
     let limit = end_limit(count);
     let mut least = FIRST_POSITION;
-    let mut at = 2 + width.bytes();
+    let mut at = PARENT + width.bytes();
     for _ in 0..count {
         check_entry(&bytes[at..], at, width, least, limit)?;
         least = end_in_block(&bytes[at..]);
-        at += 4 + usize::from(bytes[at]) + width.bytes();
+        at += NAME + 1 + usize::from(bytes[at]) + width.bytes();
     }
     Ok(at)
 }
 
-// Where the last entry has to end in a block, so that the table of so many entries, of dot and of dotdot has place
-// behind it.
+// Where the last entry has to end in a block, so that the table has place behind it.
 fn end_limit(count: u8) -> u64
     ensures { result ≡ end_limit count }
 {
@@ -98,23 +100,29 @@ fn end_in_block(rest: &[u8]) -> u64
     requires { 3 ≤ length rest.now }
     ensures { result ≡ number_at 2 1 rest.now + data_entry_length (slice_index rest.now 0) }
 {
-    u64::from(u16_at(rest, 1)) + block_length(rest[0])
+    u64::from(u16_at(rest, POSITION)) + block_length(rest[0])
 }
 
 // The entry at the front of `rest`, which begins at the place `at`.
 #[tactic(auto, unfolding(xn_bytes::specs::ShortDirectory::entry_fault))]
-fn check_entry(rest: &[u8], at: usize, width: NumberWidth, least: u64, limit: u64) -> Result<(), ShortFault>
+fn check_entry(
+    rest: &[u8],
+    at: usize,
+    width: NumberWidth,
+    least: u64,
+    limit: u64,
+) -> Result<(), ShortFault>
     requires { at + length rest.now < 2 ^ 63 }
     ensures { FindsFault (entry_fault (byte_count width) least limit at rest.now) result }
 {
     let missing = fault_at(at + rest.len());
-    if rest.len() < 3 {
+    if rest.len() < NAME {
         return Err(missing);
     }
     if !is_position(rest, least, limit) {
-        return Err(fault_at(at + 1));
+        return Err(fault_at(at + POSITION));
     }
-    let kind_place = 3 + usize::from(rest[0]);
+    let kind_place = NAME + usize::from(rest[0]);
     if rest.len() < kind_place + 1 {
         return Err(missing);
     }
@@ -132,20 +140,19 @@ fn is_position(rest: &[u8], least: u64, limit: u64) -> bool
     requires { 3 ≤ length rest.now }
     ensures { result ≡ fits_position least limit (slice_index rest.now 0) (number_at 2 1 rest.now) }
 {
-    let position = u64::from(u16_at(rest, 1));
+    let position = u64::from(u16_at(rest, POSITION));
     least <= position && position % 8 == 0 && end_in_block(rest) <= limit
 }
 
 // How many inode numbers need eight bytes, the parent's included.
-
 fn wide_count(bytes: &[u8], width: NumberWidth) -> usize
     requires width { byte_count width ≡ width_in bytes.now }
     requires within { 2 + byte_count width ≤ length bytes.now }
     requires whole { AreWhole (slice_index bytes.now 0) (byte_count width) (drop (2 + byte_count width) bytes.now) }
     ensures { result ≡ wide_numbers (form_in bytes.now) }
 {
-    let entries = ShortEntries::new(bytes[0], width, &bytes[2 + width.bytes()..]);
-    usize::from(is_wide(width.number_at(bytes, 2))) + wide_among(entries)
+    let entries = ShortEntries::new(bytes[0], width, &bytes[PARENT + width.bytes()..]);
+    usize::from(is_wide(width.number_at(bytes, PARENT))) + wide_among(entries)
 }
 
 fn wide_among(entries: ShortEntries<'_>) -> usize

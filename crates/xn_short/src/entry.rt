@@ -5,12 +5,13 @@ ghost use Rattle.xn_short.specs.Widths.{byte_count};
 ghost use Rattle.xn_short.specs.Whole.{IsWhole, AreWhole};
 ghost use Rattle.xn_short.specs.Viewed.{entry_of};
 
+use crate::layout::{NAME, POSITION};
 use crate::width::NumberWidth;
 use std::marker::Model;
 use xn_bytes::{Kind, u16_at};
 
-/// An entry of a directory in short form.
-#[derive(Clone, Copy, Debug)]
+/// An entry of a directory in short form, with its name in place.
+#[derive(Clone, Copy, Debug, PartialEq, Eq)]
 pub struct ShortEntry<'a> {
     /// The name's bytes, where they stand in the form.
     pub name: &'a [u8],
@@ -78,12 +79,12 @@ fn read_entry(width: NumberWidth, bytes: &[u8]) -> (ShortEntry<'_>, &[u8])
     ensures entry { entry_of result.0 ≡ entry_in (byte_count width) bytes.now }
     ensures rest { result.1.now ≡ drop (entry_size (byte_count width) bytes.now) bytes.now }
 {
-    let name_end = 3 + usize::from(bytes[0]);
+    let name_end = NAME + usize::from(bytes[0]);
     let entry = ShortEntry {
-        name: &bytes[3..name_end],
+        name: &bytes[NAME..name_end],
         ino: width.number_at(bytes, name_end + 1),
         kind: Kind::from_number(bytes[name_end]).unwrap_or(Kind::Reg),
-        position: u64::from(u16_at(bytes, 1)),
+        position: u64::from(u16_at(bytes, POSITION)),
     };
     (entry, &bytes[name_end + 1 + width.bytes()..])
 }

@@ -6,6 +6,7 @@
 mod check;
 mod entry;
 mod fault;
+mod layout;
 mod short;
 mod width;
 

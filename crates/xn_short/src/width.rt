@@ -17,7 +17,11 @@ impl NumberWidth {
     pub(crate) fn for_wide_numbers(count: u8) -> NumberWidth
         ensures { byte_count result ≡ number_width count }
     {
-        if count == 0 { NumberWidth::Four } else { NumberWidth::Eight }
+        if count == 0 {
+            NumberWidth::Four
+        } else {
+            NumberWidth::Eight
+        }
     }
 
     pub(crate) fn bytes(self) -> usize

@@ -1,6 +1,5 @@
-use Rattle.std.proofs.Common.{◌≡◌, ◌+◌, drop, slice_index, arith, ap, sym, Some, ◌∙◌}
+use Rattle.std.proofs.Common.{arith, ap, sym, Some, ◌∙◌}
 use Rattle.std.proofs.lemmas.Result.{err_from_is_err_and}
-use Rattle.xn_bytes.specs.ShortDirectory.{first_position, end_limit}
 use Rattle.xn_short.specs.Widths.{byte_count}
 use Rattle.xn_short.proofs.Entries.{entries_whole}
 use Rattle.xn_short.proofs.Verdicts.{at_entry, at_count, at_end, at_nothing}

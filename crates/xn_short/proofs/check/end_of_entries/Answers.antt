@@ -1,7 +1,5 @@
-use Rattle.std.proofs.Common.{◌≡◌, ◌+◌, drop, slice_index, length, take, ◌-◌}
 use Rattle.std.proofs.lemmas.Result.{err_from_is_err_and}
 use Rattle.std.proofs.lemmas.List.{take_rest}
-use Rattle.xn_bytes.specs.ShortDirectory.{entries_end, first_position, end_limit}
 use Rattle.xn_short.specs.Widths.{byte_count}
 use Rattle.xn_short.proofs.Loop.{reaches, goes_on, stops, is_done}
 use Rattle.xn_short.proofs.check.end_of_entries.Goals as goal

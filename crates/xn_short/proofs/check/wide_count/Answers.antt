@@ -1,4 +1,4 @@
-use Rattle.std.proofs.Common.{rules, cond, ◌≡◌, ◌+◌, ◌-◌, arith, ap, sym, ◌∙◌, length, take, drop, slice_index}
+use Rattle.std.proofs.Common.{rules, cond, ◌≡◌, ◌+◌, arith, ap, ◌∙◌, length, slice_index}
 use Rattle.std.proofs.lemmas.List.{take_rest}
 use Rattle.xn_bytes.specs.ShortDirectory.{entries_in}
 use Rattle.xn_short.specs.Widths.{byte_count}

@@ -1,4 +1,4 @@
-use Rattle.std.proofs.Common.{◌≡◌, ap, arith, length}
+use Rattle.std.proofs.Common.{ap, arith, length}
 use Rattle.xn_short.specs.Widths.{byte_count}
 use Rattle.xn_short.specs.Viewed.{entry_of}
 use Rattle.xn_short.proofs.Entries.{front_first}
