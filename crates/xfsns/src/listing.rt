@@ -21,8 +21,7 @@ pub fn sorted_entries<'a>(
 ) -> Result<Option<Vec<ShortEntry<'a>>>, AllocError>
     ensures { IfOk result (λ found. Lists short.now.entries found) }
 {
-    let mut entries = entries_of(alloc, short)?;
-    sort_by_name(&mut entries);
+    let entries = sorted_by_name(entries_of(alloc, short)?)?;
     if have_names(&entries) && names_rise(&entries) {
         Ok(Some(entries))
     } else {
@@ -36,11 +35,13 @@ fn entries_of<'a>(alloc: Global, short: &Short<'a>) -> Result<Vec<ShortEntry<'a>
     short.entries().collect(alloc)
 }
 
-fn sort_by_name(entries: &mut [ShortEntry<'_>])
-    ensures same { IsPermutation entries.old entries.new }
-    ensures sorted { IsSortedByName (map entry_of entries.new) }
+fn sorted_by_name(entries: Vec<ShortEntry<'_>>) -> Result<Vec<ShortEntry<'_>>, AllocError>
+    ensures same { IfOk result (λ sorted. IsPermutation entries.entry.items sorted.items) }
+    ensures sorted { IfOk result (λ sorted. IsSortedByName (map entry_of sorted.items)) }
 {
-    entries.sort_unstable_by_key(|entry| entry.name);
+    let mut sorted = entries;
+    sorted.sort_by_key(|entry| entry.name)?;
+    Ok(sorted)
 }
 
 /// Whether each entry has a name.

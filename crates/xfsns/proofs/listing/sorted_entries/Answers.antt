@@ -7,8 +7,12 @@ use Rattle.xn_bytes.specs.Names.{IsName}
 use Rattle.xn_bytes.specs.Directory.{IsBefore}
 use Rattle.xn_short.specs.Viewed.{entry_of}
 use Rattle.xfsns.specs.Listing.{Lists, IsSortedByName}
-use Rattle.xfsns.proofs.listing.sort_by_name.Goals as goal
+use Rattle.xfsns.proofs.listing.sorted_entries.Goals as goal
 
--- src/listing.rt:39:1
-pub returns-clause-sorted : goal.returns-clause-sorted
-returns-clause-sorted c = ?
+-- src/listing.rt:23:1
+pub returns-then-names_rise : goal.returns-then-names_rise
+returns-then-names_rise c = ?
+
+-- src/listing.rt:18:1
+pub returns : goal.returns
+returns c = ?
