@@ -3,7 +3,7 @@
 ghost use Rattle.std.specs.Prelude.{◌≡◌, ◌↔◌, ◌<◌, ◌%◌, length, IfOk, IsErr, IsTrue, OnOk, OnErr, Contains};
 ghost use Rattle.xn_bytes.specs.Causes.{HasCause};
 ghost use Rattle.xn_machine.specs.Device.{IsSectors, read_from};
-ghost use Rattle.xn_machine.specs.Memory.{fresh, IsOver, FailsNext, FailsNextWith, after_read, after_write, after_sync, after_say, after_failed_read, after_failed_write, after_failed_say};
+ghost use Rattle.xn_machine.specs.Memory.{fresh, IsRecorded, IsOver, FailsNext, FailsNextWith, after_read, after_write, after_sync, after_say, after_failed_read, after_failed_write, after_failed_say};
 
 use crate::{Failed, Machine};
 use std::alloc::Global;
@@ -46,11 +46,11 @@ impl Model for MemMachine {
 
     ghost Value = { MachineState };
 
-    ghost use Rattle.xn_machine.specs.MemoryFields.{state_of, HasRoom};
+    ghost use Rattle.xn_machine.specs.MemoryFields.{state_of, IsSound};
 
     ghost view = { state_of };
 
-    ghost invariant = { HasRoom };
+    ghost invariant = { IsSound };
 }
 
 fn is_listed(numbers: &[u64], number: u64) -> bool
@@ -94,9 +94,10 @@ impl MemMachine {
         })
     }
 
-    /// The bytes of all sectors.
+    /// The bytes of all sectors. What the record says led to them from the first image.
     pub fn image(&self) -> &[u8]
-        ensures { result.now ≡ self.now.image }
+        ensures value { result.now ≡ self.now.image }
+        ensures recorded { IsRecorded self.now }
     {
         &self.image
     }
