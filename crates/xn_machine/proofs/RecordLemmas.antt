@@ -6,6 +6,7 @@ use Rattle.xn_machine.specs.Record.{replayed, bytes_written, bytes_told, IsRecor
 use Rattle.xn_machine.specs.declared.memory.Call.{Call}
 use Rattle.xn_machine.specs.declared.memory.Call.TheVariants.{Read, Write, Sync, Say}
 
+-- the bytes that are written or told once one more call is made
 pub bytes_written-push : (done : List Call) (call : Call) → bytes_written (done ++ call ∷ []) ≡ bytes_written done + bytes_written (call ∷ [])
 bytes_written-push [] call = omega arith
 bytes_written-push (Read ∷ done) call = bytes_written-push done call
@@ -20,6 +21,7 @@ bytes_told-push (Write sector count ∷ done) call = bytes_told-push done call
 bytes_told-push (Sync ∷ done) call = bytes_told-push done call
 bytes_told-push (Say count ∷ done) call = omega (arith, bytes_told-push done call)
 
+-- equal bytes make equal steps
 same : (image : List ℕ) (sector : ℕ) (calls : List Call) {a b c d : List ℕ} → a ≡ b → c ≡ d →
     replayed (written_at image sector a) calls c ≡ replayed (written_at image sector b) calls d
 same image sector calls p q = cc

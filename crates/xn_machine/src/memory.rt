@@ -10,7 +10,7 @@ use std::alloc::Global;
 use std::marker::Model;
 use xn_bytes::Memory;
 
-/// A call that succeeded. The bytes that were written stand elsewhere, those that were told among all that were told.
+/// A call that succeeded. The bytes that it wrote or told stand in a list of the machine, behind those of earlier calls.
 #[derive(Clone, Copy, Debug, PartialEq, Eq)]
 enum Call {
     Read,
@@ -28,12 +28,15 @@ pub struct MemMachine {
     original: Vec<u8>,
     image: Vec<u8>,
     told: Vec<u8>,
+    // The record: the calls that succeeded, in order, and the bytes of those that wrote, one after another.
     done: Vec<Call>,
     written: Vec<u8>,
     fails: Vec<u64>,
     stop: Option<u64>,
     calls: u64,
+    // How many bytes may yet be written and told.
     room: u64,
+    // How many calls were made.
     made: u64,
     reads: u64,
     read_faults: u64,
@@ -94,7 +97,7 @@ impl MemMachine {
         })
     }
 
-    /// The bytes of all sectors. What the record says led to them from the first image.
+    /// The bytes of all sectors, to which the record leads from the first image.
     pub fn image(&self) -> &[u8]
         ensures value { result.now ≡ self.now.image }
         ensures recorded { IsRecorded self.now }

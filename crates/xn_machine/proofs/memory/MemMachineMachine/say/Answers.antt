@@ -1,3 +1,4 @@
+-- The record gets a call more, and the output the bytes that it told.
 use Rattle.std.proofs.Common.{◌≡◌, [], ◌∷◌, ◌++◌, length, arith}
 use Rattle.std.proofs.lemmas.Grind.{common_steps}
 use Rattle.xn_machine.proofs.RecordLemmas.{record-say}

@@ -1,3 +1,4 @@
+-- The record gets a call more, which changed nothing.
 use Rattle.std.proofs.Common.{◌≡◌, [], ◌∷◌, ◌++◌, arith}
 use Rattle.std.proofs.lemmas.Grind.{common_steps}
 use Rattle.xn_machine.proofs.RecordLemmas.{record-sync}

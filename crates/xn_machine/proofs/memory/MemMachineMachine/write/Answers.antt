@@ -1,3 +1,4 @@
+-- The record gets a call more, and the bytes that it wrote.
 use Rattle.std.proofs.Common.{◌≡◌, [], ◌∷◌, ◌++◌, length, arith}
 use Rattle.std.proofs.lemmas.Grind.{common_steps}
 use Rattle.xn_machine.proofs.RecordLemmas.{record-write}
