@@ -1,5 +1,5 @@
 -- What calls of a machine do to its image and to what it told. Each is known of some machines only.
-use Rattle.std.specs.Prelude.{◌≡◌, ◌⊎◌, ℕ, ◌+◌, ◌*◌, ◌/◌, ◌%◌, ◌<◌, ◌≤◌, List, ◌++◌, length, take, drop, slice_range, Option, Some, None, IsSomeAnd, MatchOption, option_map}
+use Rattle.std.specs.Prelude.{◌≡◌, ◌⊎◌, ℕ, ◌+◌, ◌*◌, ◌/◌, ◌%◌, ◌<◌, ◌≤◌, List, ◌++◌, length, take, slice_range, Option, None, IsSomeAnd, MatchOption, option_map}
 use Rattle.xn_bytes.specs.Numbers.{overlaid, sector_of}
 
 -- so many bytes from a sector on are one or more whole sectors of the machine

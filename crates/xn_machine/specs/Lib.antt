@@ -1,5 +1,6 @@
 pub mod Device
 pub mod Input
+pub mod Record
 pub mod Memory
 pub mod MemoryFields
 pub mod MemorySource

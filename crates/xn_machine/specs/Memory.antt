@@ -1,7 +1,8 @@
 -- A machine in memory as contracts see it, which of its calls fail, and what each call leaves.
-use Rattle.std.specs.Prelude.{◌≡◌, ◌⊎◌, ℕ, ◌+◌, ◌-◌, ◌*◌, ◌<◌, ◌≤◌, List, [], ◌∷◌, ◌++◌, length, Contains, Option, IsSomeAnd}
+use Rattle.std.specs.Prelude.{◌⊎◌, ℕ, ◌+◌, ◌-◌, ◌<◌, List, [], ◌∷◌, ◌++◌, length, Contains, Option, IsSomeAnd}
 use Rattle.xn_bytes.specs.Causes.{counted}
 use Rattle.xn_machine.specs.Device.{written_at}
+use Rattle.xn_machine.specs.Record.{IsRecord}
 use Rattle.xn_machine.specs.declared.memory.Call.{Call}
 use Rattle.xn_machine.specs.declared.memory.Call.TheVariants.{Read, Write, Sync, Say}
 
@@ -23,6 +24,10 @@ pub record MachineState : Type 0 where
   pub read_faults : ℕ
   pub write_faults : ℕ
   pub say_faults : ℕ
+
+-- the record accounts for what is there
+abbrev pub IsRecorded : MachineState → Type 0
+IsRecorded m = IsRecord m.original m.done m.written m.image m.told
 
 -- a machine before its first call
 abbrev pub fresh : List ℕ → List ℕ → Option ℕ → ℕ → ℕ → MachineState

@@ -23,7 +23,9 @@ pub trait Machine {
 
     /// How often reading, writing or syncing, and telling have failed.
     ghost read_faults: { Self → ℕ };
+
     ghost write_faults: { Self → ℕ };
+
     ghost say_faults: { Self → ℕ };
 
     /// How often `read` was called, up to 2^64 - 1.

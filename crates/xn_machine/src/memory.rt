@@ -3,14 +3,14 @@
 ghost use Rattle.std.specs.Prelude.{◌≡◌, ◌↔◌, ◌<◌, ◌%◌, length, IfOk, IsErr, IsTrue, OnOk, OnErr, Contains};
 ghost use Rattle.xn_bytes.specs.Causes.{HasCause};
 ghost use Rattle.xn_machine.specs.Device.{IsSectors, read_from};
-ghost use Rattle.xn_machine.specs.Memory.{fresh, IsOver, FailsNext, FailsNextWith, after_read, after_write, after_sync, after_say, after_failed_read, after_failed_write, after_failed_say};
+ghost use Rattle.xn_machine.specs.Memory.{fresh, IsRecorded, IsOver, FailsNext, FailsNextWith, after_read, after_write, after_sync, after_say, after_failed_read, after_failed_write, after_failed_say};
 
 use crate::{Failed, Machine};
 use std::alloc::Global;
 use std::marker::Model;
 use xn_bytes::Memory;
 
-/// A call that succeeded. The bytes that were written stand elsewhere, those that were told among all that were told.
+/// A call that succeeded. The bytes that it wrote or told stand in a list of the machine, behind those of earlier calls.
 #[derive(Clone, Copy, Debug, PartialEq, Eq)]
 enum Call {
     Read,
@@ -28,12 +28,15 @@ pub struct MemMachine {
     original: Vec<u8>,
     image: Vec<u8>,
     told: Vec<u8>,
+    // The record: the calls that succeeded, in order, and the bytes of those that wrote, one after another.
     done: Vec<Call>,
     written: Vec<u8>,
     fails: Vec<u64>,
     stop: Option<u64>,
     calls: u64,
+    // How many bytes may yet be written and told.
     room: u64,
+    // How many calls were made.
     made: u64,
     reads: u64,
     read_faults: u64,
@@ -46,11 +49,11 @@ impl Model for MemMachine {
 
     ghost Value = { MachineState };
 
-    ghost use Rattle.xn_machine.specs.MemoryFields.{state_of, HasRoom};
+    ghost use Rattle.xn_machine.specs.MemoryFields.{state_of, IsSound};
 
     ghost view = { state_of };
 
-    ghost invariant = { HasRoom };
+    ghost invariant = { IsSound };
 }
 
 fn is_listed(numbers: &[u64], number: u64) -> bool
@@ -94,9 +97,10 @@ impl MemMachine {
         })
     }
 
-    /// The bytes of all sectors.
+    /// The bytes of all sectors, to which the record leads from the first image.
     pub fn image(&self) -> &[u8]
-        ensures { result.now ≡ self.now.image }
+        ensures value { result.now ≡ self.now.image }
+        ensures recorded { IsRecorded self.now }
     {
         &self.image
     }

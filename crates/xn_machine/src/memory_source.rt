@@ -11,8 +11,10 @@ use std::marker::Model;
 #[derive(Drop)]
 pub struct MemSource {
     bytes: Vec<u8>,
+    // How many of the bytes were read.
     at: usize,
     fails: Vec<u64>,
+    // How many calls were made, up to 2^64 - 1.
     made: u64,
     faults: u64,
 }

@@ -65,7 +65,11 @@ fn machine_fails_where_it_is_to(rt: HostRuntime) -> Result<(), Fail> {
         let mut machine = two_sectors(rt.alloc(), fails, *stop, *calls, *bytes)?;
         for (index, want) in wanted.iter().enumerate() {
             let number = index as u64 + 1;
-            assert_eq!(rt; succeeds(&rt, &mut machine, number), *want, "call {number} of case {case}");
+            assert_eq!(rt;
+                succeeds(&rt, &mut machine, number),
+                *want,
+                "call {number} of case {case}"
+            );
         }
     }
     Ok(())
