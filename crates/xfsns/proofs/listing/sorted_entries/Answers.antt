@@ -1,18 +1,18 @@
-use Rattle.std.proofs.Common.{rules, ◌≡◌, ◌↔◌, IsTrue, IfOk, map, length, All, IsPermutation, slice_index_or, ℕ, ◌+◌, ◌-◌, ◌*◌, ◌<◌, ◌≤◌, ◌/◌, ◌%◌, Bool, true, false, nat_eq, nat_lt, List, [], ◌∷◌, ◌++◌, slice_set, bit_and, bit_or, Fits, w8, w32, w64, Bor, MutBor}
-use Rattle.std.specs.List.{AllAdjacentBelow}
-use Rattle.std.specs.Ordering.{nat_cmp}
-use Rattle.std.specs.Cmp.Lexicographic.{slice_cmp}
-use Rattle.std.specs.declared.cmp.Ordering.TheVariants.{Less}
-use Rattle.xn_bytes.specs.Names.{IsName}
-use Rattle.xn_bytes.specs.Directory.{IsBefore}
-use Rattle.xn_short.specs.Viewed.{entry_of}
-use Rattle.xfsns.specs.Listing.{Lists, IsSortedByName}
+use Rattle.xn_bytes.proofs.TestLemmas.{holds, fails}
+use Rattle.xfsns.proofs.ListingLemmas.{is_listing, are_right}
 use Rattle.xfsns.proofs.listing.sorted_entries.Goals as goal
+use Rattle.xfsns.proofs.listing.sorted_entries.Goals.{else-have_names-via-then-have_names+else-names_rise, else-have_names-via-else-have_names}
 
--- src/listing.rt:23:1
 pub returns-then-names_rise : goal.returns-then-names_rise
-returns-then-names_rise c = ?
+returns-then-names_rise c =
+    is_listing c.args.short.now.entries c.in_ok-entries_of.field-0.items c.in_ok-entries.entries.items c.in_ok-entries_of.ensures c.in_ok-entries.ensures.same
+    (rw c.deref.ensures.value at (holds c.if-have_names.ensures))
+    (rw c.deref-then-have_names.ensures.value at (holds c.if-names_rise.ensures))
 
--- src/listing.rt:18:1
 pub returns : goal.returns
-returns c = ?
+returns c = λ right.
+    let both = are_right c.args.short.now.entries c.in_ok-entries_of.field-0.items c.in_ok-entries.entries.items c.in_ok-entries_of.ensures c.in_ok-entries.ensures.same c.in_ok-entries.ensures.sorted right in
+    elim c.else-have_names.branch [
+      | else-have_names-via-then-have_names+else-names_rise w ↦ fails w.if-names_rise.ensures (rw w.deref-then-have_names.ensures.value both.1)
+      | else-have_names-via-else-have_names w ↦ fails w.if-have_names.ensures (rw c.deref.ensures.value both.0)
+    ]

@@ -16,5 +16,6 @@ invariant_of-self-2 c =
       calls = grind (arith, common_steps);
       written = grind (arith, common_steps);
       told = grind (arith, common_steps);
+      counts = c.self.invariant.counts;
       recorded = record-write c.args.sector c.args.bytes.now c.self.invariant.recorded pushed written (grind (arith, common_steps));
     }
