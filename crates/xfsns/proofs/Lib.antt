@@ -1,3 +1,4 @@
 pub mod WordLemmas
 pub mod HomeLemmas
 pub mod ListingLemmas
+pub mod AnswerLemmas

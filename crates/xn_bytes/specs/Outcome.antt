@@ -89,23 +89,32 @@ list_text entries = codes "ok " ++ decimal (length entries) ++ newline ∷ [] ++
 
 -- ---- the answers
 
--- What the program answers to words: the status, and the text that it tells. Where an image is told, the cases shut
--- each other out, so each status comes exactly where its cause stands; where none is told, only the words bind.
-abbrev pub Answers : List (List ℕ) → Option (List ℕ) → Status → List ℕ → Type 0
-Answers words image Usage told = ((ino : ℕ) → ¬ AsksList words ino) × (told ≡ usage_line)
-Answers words image Image told =
-    (ino : ℕ) × AsksList words ino × (told ≡ image_line 1 0 0)
-    × IfSome image (λ x. ¬ HasSuperblock x)
-Answers words image Unbuilt told =
-    (ino : ℕ) × AsksList words ino × (told ≡ unbuilt_line)
+-- What `list` answers of an inode: the status, and the text that it tells. Where an image is told, the cases shut each
+-- other out, so each status comes exactly where its cause stands.
+abbrev pub ListAnswers : Option (List ℕ) → ℕ → Status → List ℕ → Type 0
+ListAnswers image ino Image told = (told ≡ image_line 1 0 0) × IfSome image (λ x. ¬ HasSuperblock x)
+ListAnswers image ino Unbuilt told =
+    (told ≡ unbuilt_line)
     × IfSome image (λ x. HasSuperblock x × ((form : ShortForm) → ¬ IsPlain (geometry_in x) ino (inode_in x ino) form))
-Answers words image Done told =
-    (ino : ℕ) × AsksList words ino × (sorted : List Entry) × (told ≡ list_text sorted)
-    × IfSome image (λ x. HasSuperblock x × (form : ShortForm) × IsPlain (geometry_in x) ino (inode_in x ino) form × IsListing form.entries sorted)
+ListAnswers image ino Done told =
+    (sorted : List Entry) × (told ≡ list_text sorted)
+    × IfSome image (λ x. HasSuperblock x × ((form : ShortForm) × IsPlain (geometry_in x) ino (inode_in x ino) form × IsListing form.entries sorted))
 -- no other status is an answer
-Answers words image ReadFault told = ⊥
-Answers words image SayFault told = ⊥
-Answers words image Memory told = ⊥
+ListAnswers image ino Usage told = ⊥
+ListAnswers image ino ReadFault told = ⊥
+ListAnswers image ino SayFault told = ⊥
+ListAnswers image ino Memory told = ⊥
+
+-- what is answered to words that are none of the forms
+pub record UsageAnswers (words : List (List ℕ)) (status : Status) (told : List ℕ) : Type 0 where
+  pub no_list : (ino : ℕ) → ¬ AsksList words ino
+  pub is_usage : status ≡ Usage
+  pub line : told ≡ usage_line
+
+-- What the program answers to words over an image, where one is told.
+abbrev pub Answers : List (List ℕ) → Option (List ℕ) → Status → List ℕ → Type 0
+Answers words image status told =
+    UsageAnswers words status told ⊎ ((ino : ℕ) × AsksList words ino × ListAnswers image ino status told)
 
 -- ---- the outcome of a call
 

@@ -1,0 +1,63 @@
+//! The program's one call: words, machine and sources in, a status out.
+
+ghost use Rattle.std.specs.Prelude.{◌≡◌, ◌+◌, ◌≤◌, ◌*◌, map, string_bytes};
+ghost use Rattle.xn_bytes.specs.Outcome.{Outcome, outside_of};
+ghost use Rattle.xfsns.specs.Top.{TellsOrFails};
+
+use crate::answer::{Answer, Fault, answer_words};
+use std::alloc::Global;
+use xn_bytes::Status;
+use xn_machine::{Machine, Source};
+
+/// Answers the words after the program's name over the machine's image, and tells the answer on its output.
+///
+/// `list IMAGE MANIFEST INO` lists a directory in short form. The two files are the machine's and the manifest's; neither
+/// the manifest nor the script is read.
+pub fn xfsns<M: Machine, F: Source, S: Source>(
+    alloc: Global,
+    words: &[String],
+    machine: &mut M,
+    _manifest: &mut F,
+    _script: &mut S,
+) -> Status
+    // The status and what is newly told are the answer to the words over the image, but for want of memory and for a
+    // fault of the outside whose count rose.
+    ensures outcome { Outcome (map string_bytes words.now)
+        (outside_of M.image M.told M.reads M.read_faults M.say_faults machine.old)
+        (outside_of M.image M.told M.reads M.read_faults M.say_faults machine.new)
+        result }
+
+    // The image stays as it is, at most two sectors are read, and no count of faults falls.
+    ensures image { M.image machine.new ≡ M.image machine.old }
+    ensures sectors { M.sector_count machine.new ≡ M.sector_count machine.old }
+    ensures reads { M.reads machine.new ≤ M.reads machine.old + 2 }
+    ensures read_faults { M.read_faults machine.old ≤ M.read_faults machine.new }
+    ensures write_faults { M.write_faults machine.old ≤ M.write_faults machine.new }
+    ensures say_faults { M.say_faults machine.old ≤ M.say_faults machine.new }
+
+    // The sources are not read.
+    ensures manifest { _manifest.new ≡ _manifest.old }
+    ensures script { _script.new ≡ _script.old }
+{
+    match answer_words(alloc, words, machine) {
+        Ok(answer) => tell(machine, &answer),
+        Err(Fault::Read) => Status::ReadFault,
+        Err(Fault::Memory) => Status::Memory,
+    }
+}
+
+/// Tells an answer.
+fn tell<M: Machine>(machine: &mut M, answer: &Answer) -> Status
+    ensures told { TellsOrFails M.told M.say_faults machine.old machine.new answer.now.status answer.now.text.items result }
+    ensures image { M.image machine.new ≡ M.image machine.old }
+    ensures sectors { M.sector_count machine.new ≡ M.sector_count machine.old }
+    ensures reads { M.reads machine.new ≡ M.reads machine.old }
+    ensures read_faults { M.read_faults machine.old ≤ M.read_faults machine.new }
+    ensures write_faults { M.write_faults machine.old ≤ M.write_faults machine.new }
+    ensures say_faults { M.say_faults machine.old ≤ M.say_faults machine.new }
+{
+    match machine.say(&answer.text) {
+        Ok(()) => answer.status,
+        Err(_) => Status::SayFault,
+    }
+}
