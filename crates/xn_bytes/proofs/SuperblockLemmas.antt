@@ -11,4 +11,4 @@ past (inr holds) p = holds.1
 pub broken_is_none : (bytes : List ℕ) (sectors field : ℕ) → FirstFieldBroken bytes sectors field → IsSuperblock bytes sectors → ⊥
 broken_is_none bytes sectors field broken s =
     past (past (past (past (past (past (past (past (past (past (past (past (past broken s.magic) s.checksum) s.version) s.block_size)
-        s.sector_size) s.inode_size) s.groups) s.directory_blocks) s.log) s.incompat) s.read_only_compat) s.root) s.length
+    s.sector_size) s.inode_size) s.groups) s.directory_blocks) s.log) s.incompat) s.read_only_compat) s.root) s.length

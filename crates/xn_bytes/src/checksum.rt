@@ -1,4 +1,4 @@
-ghost use Rattle.std.specs.Prelude.{◌≡◌, ◌+◌, ◌≤◌, ◌↔◌, ◌++◌, ℕ, List, [], length, IsTrue};
+ghost use Rattle.std.specs.Prelude.{◌≡◌, ◌+◌, ◌≤◌, ◌↔◌, ◌++◌, ℕ, List, [], length, IsTrue, bit_xor};
 ghost use Rattle.xn_bytes.specs.Checksum.{byte_step, register_after, register_of, crc32c, checksum_with, HasChecksum};
 
 use crate::numbers::little_u32_at;
@@ -40,7 +40,8 @@ impl Crc {
 
     /// The checksum of all bytes added.
     pub fn end(self) -> u32
-        ensures { (bytes : List ℕ) → self ≡ register_of bytes → result ≡ crc32c bytes }
+        ensures value { result ≡ bit_xor self 0xffff_ffff }
+        ensures all { (bytes : List ℕ) → self ≡ register_of bytes → result ≡ crc32c bytes }
     {
         self.register ^ 0xffff_ffff
     }

@@ -20,3 +20,6 @@ pub use memory::Memory;
 pub use name::{Name, NameFault, is_name};
 pub use numbers::{little_u32_at, u8_at, u16_at, u32_at, u64_at};
 pub use status::Status;
+
+#[cfg(test)]
+mod tests;

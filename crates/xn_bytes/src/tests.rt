@@ -1,0 +1,83 @@
+use super::*;
+use std::test::Fail;
+
+#[test]
+fn checksum_in_pieces(rt: HostRuntime) {
+    let message = b"123456789";
+    for cut in 0..10 {
+        let mut crc = Crc::start();
+        crc.add(&message[..cut]);
+        crc.add(&message[cut..]);
+        assert_eq!(rt; crc.end(), 0xe306_9283, "cut at {cut}");
+    }
+}
+
+#[test]
+fn names(rt: HostRuntime) -> Result<(), Fail> {
+    let alloc = rt.alloc();
+    let long = vec![in alloc; b'n'; 256]?;
+    assert_eq!(rt;
+        Name::read(alloc, &long[..255])
+            .ok()
+            .ok_or("255 bytes are a name")?
+            .bytes(),
+        &long[..255]
+    );
+    let faults: [(&[u8], NameFault); 7] = [
+        (b"", NameFault::Empty),
+        (&long, NameFault::Long),
+        (b"/", NameFault::Byte { at: 0 }),
+        (b"a/b\0", NameFault::Byte { at: 1 }),
+        (b"ab\0/", NameFault::Byte { at: 2 }),
+        (b".", NameFault::Dots),
+        (b"..", NameFault::Dots),
+    ];
+    for (bytes, fault) in faults {
+        assert!(rt; Name::read(alloc, bytes).err() == Some(fault), "{bytes:?}");
+    }
+    assert!(rt; Name::read(alloc, b"...").is_ok());
+    Ok(())
+}
+
+#[test]
+fn escapes(rt: HostRuntime) -> Result<(), Fail> {
+    let cases: [(&[u8], &[u8]); 5] = [
+        (b"", b""),
+        (b"\x60\xc1", b"`\\c1"),
+        (b"a b", b"a\\20b"),
+        (b"\\~\x7f!", b"\\5c~\\7f!"),
+        (b"/\0\n", b"/\\00\\0a"),
+    ];
+    for (bytes, text) in cases {
+        let mut out = Vec::from_slice(rt.alloc(), b"> ")?;
+        escape(bytes, &mut out).ok().ok_or("there is memory")?;
+        assert_eq!(rt; &out[..2], b"> ".as_slice());
+        assert_eq!(rt; &out[2..], text);
+    }
+    Ok(())
+}
+
+#[test]
+fn bytes_give_back_what_they_are(rt: HostRuntime) -> Result<(), Fail> {
+    let bytes = Bytes::new(Vec::from_slice(rt.alloc(), b"ab")?);
+    assert_eq!(rt; bytes.as_slice(), b"ab".as_slice());
+    assert_eq!(rt; bytes.into_vec().as_slice(), b"ab".as_slice());
+    Ok(())
+}
+
+#[test]
+fn kinds_and_statuses(rt: HostRuntime) {
+    let words = ["reg", "dir", "chr", "blk", "fifo", "sock", "lnk"];
+    let modes = [
+        0o100644, 0o040755, 0o020000, 0o060000, 0o010000, 0o140000, 0o120777,
+    ];
+    for number in 1u8..8 {
+        let kind = Kind::from_number(number).expect(&rt, "a kind");
+        assert_eq!(rt; kind.number(), number);
+        assert!(rt; Kind::from_mode(modes[usize::from(number) - 1]) == Some(kind));
+        assert_eq!(rt; kind.word(), words[usize::from(number) - 1]);
+    }
+    assert!(rt; Kind::from_number(0).is_none() && Kind::from_number(8).is_none());
+    assert!(rt; Kind::from_mode(0).is_none());
+    assert_eq!(rt; Status::Unbuilt.number(), 11);
+}
