@@ -1,6 +1,6 @@
 -- Directories in short form: the entries stand in the inode's data fork (`struct xfs_dir2_sf_hdr` and
 -- `xfs_dir2_sf_entry` of `xfs_da_format.h`, with the kind behind the name).
-use Rattle.std.specs.Prelude.{◌≡◌, ◌⊎◌, ◌↔◌, ℕ, zero, suc, ◌+◌, ◌-◌, ◌*◌, ◌/◌, ◌%◌, ◌^◌, ◌<◌, ◌≤◌, Bool, ◌==◌, ◌&&◌, nat_lt, nat_le, not, if◌then◌else◌, List, [], ◌∷◌, ◌++◌, length, take, drop, slice_index, slice_range, count_by, flat_map, All, Option, Some, None, Result, Ok, Err, is_none, unwrap_or}
+use Rattle.std.specs.Prelude.{◌≡◌, ◌⊎◌, ◌↔◌, ℕ, zero, suc, ◌+◌, ◌-◌, ◌*◌, ◌/◌, ◌%◌, ◌^◌, ◌<◌, ◌≤◌, Bool, true, ◌==◌, ◌&&◌, nat_lt, nat_le, not, if◌then◌else◌, List, [], ◌∷◌, ◌++◌, length, take, drop, slice_index, slice_range, count_by, flat_map, All, Option, Some, None, Result, Ok, Err, is_none, unwrap_or}
 use Rattle.byteorder.specs.Endian.{big_bytes}
 use Rattle.xn_bytes.specs.declared.kind.Kind.{Kind}
 use Rattle.xn_bytes.specs.declared.kind.Kind.TheVariants.{Reg}
@@ -76,7 +76,7 @@ pub record ShortHolds (bytes : List ℕ) (form : ShortForm) : Type 0 where
   pub lawful : IsShortForm form
   pub spelled : bytes ≡ short_spelling form
 
--- ---- the first place at which bytes fail
+-- ---- the earliest place at which bytes fail
 
 -- A position may stand here: a multiple of 8, at or after `least`, and its entry ends at `limit` or before.
 abbrev pub fits_position : ℕ → ℕ → ℕ → ℕ → Bool
@@ -124,6 +124,11 @@ entries_end (suc count) width least limit at rest =
     unless_fault (entry_fault width least limit at rest)
     (entries_end count width (number_at 2 1 rest + data_entry_length (slice_index rest 0)) limit (at + entry_size width rest) (drop (entry_size width rest) rest))
 
+-- whether the bytes of so many entries are all there
+unfoldable pub entries_there : ℕ → ℕ → List ℕ → Bool
+entries_there zero width rest = true
+entries_there (suc count) width rest = nat_le (entry_size width rest) (length rest) && entries_there count width (drop (entry_size width rest) rest)
+
 -- the width of the inode numbers, by the count of wide ones in byte 1
 abbrev pub width_in : List ℕ → ℕ
 width_in bytes = number_width (slice_index bytes 1)
@@ -139,19 +144,17 @@ form_in bytes = record {
 abbrev pub end_limit : ℕ → ℕ
 end_limit count = 4096 - (8 * (count + 2) + 8)
 
--- Once the entries end at a place: the count of wide numbers at place 1 has to be theirs, and nothing may follow.
+-- Once the entries end at a place, nothing may follow.
 abbrev pub after_entries : List ℕ → Result ℕ ℕ → Option ℕ
 after_entries bytes (Err fault) = Some fault
-after_entries bytes (Ok end) =
-    if not (wide_numbers (form_in bytes) == slice_index bytes 1) then Some 1
-    else if nat_lt end (length bytes) then Some end
-    else None
+after_entries bytes (Ok end) = if nat_lt end (length bytes) then Some end else None
 
--- The first place at which bytes fail to be a short form: that of the first byte that is missing, too many, or of a
--- field that is wrong.
+-- The earliest place at which bytes fail to be a short form: that of the first byte that is missing, too many, or of a
+-- field that is wrong. The count of wide numbers, at place 1, is compared where all the entries' bytes are there.
 unfoldable pub short_fault : List ℕ → Option ℕ
 short_fault bytes =
     if nat_lt (length bytes) 2 then Some (length bytes)
     else if nat_lt (length bytes) (2 + width_in bytes) then Some (length bytes)
+    else if entries_there (slice_index bytes 0) (width_in bytes) (drop (2 + width_in bytes) bytes) && not (wide_numbers (form_in bytes) == slice_index bytes 1) then Some 1
     else after_entries bytes
     (entries_end (slice_index bytes 0) (width_in bytes) first_position (end_limit (slice_index bytes 0)) (2 + width_in bytes) (drop (2 + width_in bytes) bytes))

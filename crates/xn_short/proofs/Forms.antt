@@ -1,6 +1,6 @@
 -- The two laws of forms: bytes with no fault spell the form that is read in them, and what spells a form has no fault
 -- and is read as that form.
-use Rattle.std.proofs.Common.{◌≡◌, ℕ, ◌+◌, ◌-◌, ◌^◌, ◌<◌, ◌≤◌, Bool, true, false, cond, leb, ltb, eqb, List, [], ◌∷◌, ◌++◌, length, slice_index, take, drop, Option, Some, None, Result, Ok, Err, All, refl, sym, ap, subst, ◌∙◌, arith, inl, inr}
+use Rattle.std.proofs.Common.{◌≡◌, ℕ, ◌+◌, ◌-◌, ◌^◌, ◌<◌, ◌≤◌, Bool, true, false, ◌&&◌, not, cond, leb, ltb, eqb, List, [], ◌∷◌, ◌++◌, length, slice_index, take, drop, Option, Some, None, Result, Ok, Err, All, refl, sym, ap, subst, ◌∙◌, arith, inl, inr}
 use Rattle.std.specs.Prelude.{count_by}
 use Rattle.std.specs.List.{flat_map, AllByRecursion}
 use Rattle.std.proofs.lemmas.Bool.{cases_eq, eqb-true, eq-eqb, ne_eqb, ltb-false, le-ltb, leb-false, not-false, cond_both}
@@ -11,9 +11,10 @@ use Rattle.byteorder.specs.Endian.{big_bytes}
 use Rattle.byteorder.specs.Numbers.{big_from-lt, big_number-reads_back, length-bytes_high_first}
 use Rattle.xn_bytes.specs.Numbers.{number_at}
 use Rattle.xn_bytes.specs.Entries.{Entry}
-use Rattle.xn_bytes.specs.ShortDirectory.{ShortForm, wide_numbers, number_width, entry_spelling, short_spelling, first_position, FitsEntry, IsShortForm, ShortHolds, entries_in, entries_end, width_in, form_in, end_limit, after_entries, short_fault}
+use Rattle.xn_bytes.specs.ShortDirectory.{ShortForm, wide_numbers, number_width, entry_spelling, short_spelling, first_position, FitsEntry, IsShortForm, ShortHolds, entries_in, entries_there, entries_end, width_in, form_in, end_limit, after_entries, short_fault}
 use Rattle.xn_short.specs.Whole.{AreWhole}
 use Rattle.xn_short.proofs.Numbers.{IsBytes, IsBytes-drop, IsWidth, four_bytes, eight_bytes}
+use Rattle.xn_short.proofs.Counting.{whole_there}
 use Rattle.xn_short.proofs.Entries.{length-entries_in, entries_whole, entries_read, FitsWidth, entries_again}
 
 is_width : (count : ℕ) → IsWidth (number_width count)
@@ -25,24 +26,28 @@ guard_none false x next e = (refl, e)
 
 -- ---- bytes with no fault
 
+right_if_there : (there right : Bool) → there ≡ true → there && not right ≡ false → right ≡ true
+right_if_there true right is e = not-false right e
+right_if_there false right is e = absurd cc
+
 pub record HasEnd (bytes : List ℕ) (read : Result ℕ ℕ) : Type 0 where
   pub end : ℕ
   pub is_end : read ≡ Ok end
-  pub wide : wide_numbers (form_in bytes) ≡ slice_index bytes 1
   pub last : length bytes ≤ end
 
 has_end : (bytes : List ℕ) (read : Result ℕ ℕ) → after_entries bytes read ≡ None → HasEnd bytes read
 has_end bytes (Err fault) e = absurd cc
 has_end bytes (Ok end) e =
     let g0 = guard_none _ _ _ e in
-    let g1 = guard_none _ _ _ g0.1 in
-    record { end = end; is_end = refl; wide = eqb-true _ _ (not-false _ g0.0); last = ltb-false _ _ g1.0 }
+    record { end = end; is_end = refl; last = ltb-false _ _ g0.0 }
 
 abbrev pub end_in : List ℕ → Result ℕ ℕ
 end_in bytes = entries_end (slice_index bytes 0) (width_in bytes) first_position (end_limit (slice_index bytes 0)) (2 + width_in bytes) (drop (2 + width_in bytes) bytes)
 
 pub record HasNoFault (bytes : List ℕ) : Type 0 where
   pub long : 2 + width_in bytes ≤ length bytes
+  pub whole : AreWhole (slice_index bytes 0) (width_in bytes) (drop (2 + width_in bytes) bytes)
+  pub wide : wide_numbers (form_in bytes) ≡ slice_index bytes 1
   pub ended : HasEnd bytes (end_in bytes)
 
 pub has_no_fault : (bytes : List ℕ) → short_fault bytes ≡ None → HasNoFault bytes
@@ -50,7 +55,11 @@ unfolding short_fault
 has_no_fault bytes e =
     let g0 = guard_none _ _ _ e in
     let g1 = guard_none _ _ _ g0.1 in
-    record { long = ltb-false _ _ g1.0; ended = has_end bytes (end_in bytes) g1.1 }
+    let g2 = guard_none _ _ _ g1.1 in
+    let ended = has_end bytes (end_in bytes) g2.1 in
+    let whole : AreWhole (slice_index bytes 0) (width_in bytes) (drop (2 + width_in bytes) bytes) = entries_whole _ _ _ _ _ _ _ ended.is_end in
+    let there = whole_there (slice_index bytes 0) (width_in bytes) (drop (2 + width_in bytes) bytes) whole in
+    record { long = ltb-false _ _ g1.0; whole = whole; wide = eqb-true _ _ (right_if_there _ _ there g2.0); ended = ended }
 
 spelled_by : (bytes : List ℕ) (form : ShortForm) → 2 ≤ length bytes → length form.entries ≡ slice_index bytes 0 → wide_numbers form ≡ slice_index bytes 1
     → drop 2 bytes ≡ big_bytes (number_width (slice_index bytes 1)) form.parent ++ flat_map (entry_spelling (number_width (slice_index bytes 1))) form.entries → bytes ≡ short_spelling form
@@ -94,13 +103,13 @@ form_read bytes fits e =
     record {
       lawful = record {
         count = omega (arith, counted);
-        wide = omega (arith, h.ended.wide);
+        wide = omega (arith, h.wide);
         parent = parent_small bytes fits;
         fit = All-from_recursion FitsEntry (entries_in count width rest) read.fit;
         apart = read.apart;
         block = omega (arith, counted, last);
       };
-      spelled = spelled_by bytes (form_in bytes) (omega arith) counted h.ended.wide rest_is;
+      spelled = spelled_by bytes (form_in bytes) (omega arith) counted h.wide rest_is;
     }
 
 -- ---- what spells a form
@@ -161,8 +170,9 @@ spelling_read form lawful =
     let b : ltb (length text) (2 + width) ≡ false = le-ltb _ _ (omega arith) in
     let c : eqb (wide_numbers (form_in text)) wide ≡ true = eq-eqb _ _ (ap wide_numbers form_is) in
     let d : ltb (2 + width + length spelled) (length text) ≡ false = le-ltb _ _ (omega arith) in
+    let there : entries_there count width spelled ≡ true = whole_there count width spelled (entries_whole _ _ _ _ _ _ _ ends) in
     record {
-      sound = rw (a, b, behind, ends, c, d) refl;
+      sound = rw (a, b, c, behind, there, ends, d) refl;
       read = form_is;
     }
 
@@ -175,8 +185,7 @@ pub stands_whole : (bytes : List ℕ) (form : ShortForm) (width bytes_of_width :
     → AreWhole (slice_index bytes 0) width (take (length bytes - (2 + bytes_of_width)) (drop (2 + bytes_of_width) bytes))
 stands_whole bytes form width bytes_of_width holds is same =
     let h = has_no_fault bytes (holds_read bytes form holds).sound in
-    let whole : AreWhole (slice_index bytes 0) (width_in bytes) (drop (2 + width_in bytes) bytes) = entries_whole _ _ _ _ _ _ _ h.ended.is_end in
-    let here : AreWhole (slice_index bytes 0) width (drop (2 + width) bytes) = subst (λ (w : ℕ). AreWhole (slice_index bytes 0) w (drop (2 + w) bytes)) (sym is) whole in
+    let here : AreWhole (slice_index bytes 0) width (drop (2 + width) bytes) = subst (λ (w : ℕ). AreWhole (slice_index bytes 0) w (drop (2 + w) bytes)) (sym is) h.whole in
     let part : take (length bytes - (2 + bytes_of_width)) (drop (2 + bytes_of_width) bytes) ≡ drop (2 + width) bytes = take_rest bytes (2 + bytes_of_width) ∙ ap (λ (w : ℕ). drop (2 + w) bytes) same in
     subst (λ (t : List ℕ). AreWhole (slice_index bytes 0) width t) (sym part) here
 

@@ -1,8 +1,9 @@
 pub mod Numbers
 pub mod OneEntry
 pub mod Entries
-pub mod Forms
 pub mod Loop
+pub mod Counting
+pub mod Forms
 pub mod Verdicts
 pub mod Finding
 pub mod Places

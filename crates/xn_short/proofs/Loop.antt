@@ -6,7 +6,7 @@ use Rattle.xn_bytes.specs.Entries.{data_entry_length}
 use Rattle.xn_bytes.specs.ShortDirectory.{entry_size, entry_fault, entries_end}
 use Rattle.xn_short.proofs.OneEntry.{entry_passed}
 
-first_at : (at : ℕ) (bytes : List ℕ) → slice_index (drop at bytes) 0 ≡ slice_index bytes at
+pub first_at : (at : ℕ) (bytes : List ℕ) → slice_index (drop at bytes) 0 ≡ slice_index bytes at
 first_at at bytes = let e : at + 0 ≡ at = omega arith in get_or-drop at bytes 0 0 ∙ ap (slice_index bytes) e
 
 -- an entry with no fault has a first byte, and the three that its position needs

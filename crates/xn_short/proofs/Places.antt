@@ -1,12 +1,13 @@
 -- The place of a fault is none past the bytes' end.
-use Rattle.std.proofs.Common.{◌≡◌, ℕ, zero, suc, ◌+◌, ◌≤◌, ◌⊎◌, Bool, true, false, cond, not, ltb, eqb, List, length, slice_index, drop, Option, Some, None, Result, Ok, Err, refl, arith, inl, inr}
+use Rattle.std.proofs.Common.{◌≡◌, ℕ, zero, suc, ◌+◌, ◌≤◌, ◌⊎◌, Bool, true, false, cond, not, ltb, List, length, slice_index, drop, Option, Some, None, Result, Ok, Err, refl, arith, inl, inr}
 use Rattle.std.specs.Prelude.{is_none}
 use Rattle.std.proofs.lemmas.Bool.{ltb-true, ltb-false}
 use Rattle.std.proofs.lemmas.List.{length-drop}
 use Rattle.xn_bytes.specs.Kinds.{kind_of_number}
 use Rattle.xn_bytes.specs.Numbers.{number_at}
 use Rattle.xn_bytes.specs.Entries.{data_entry_length}
-use Rattle.xn_bytes.specs.ShortDirectory.{entry_size, entry_fault, entries_end, unless_fault, first_position, width_in, end_limit, after_entries, short_fault, fits_position, wide_numbers, form_in}
+use Rattle.xn_bytes.specs.ShortDirectory.{entry_size, entry_fault, entries_end, unless_fault, first_position, width_in, end_limit, after_entries, short_fault, fits_position}
+use Rattle.xn_short.specs.Checks.{counts_wrong}
 use Rattle.xn_short.proofs.OneEntry.{entry_passed}
 
 -- where one of two places is the fault, and neither is past n
@@ -45,11 +46,10 @@ entries_within (suc count) width least limit at fault rest e =
           omega (arith, length-drop (entry_size width rest) rest)
     ]
 
-after_within : (bytes : List ℕ) (end : Result ℕ ℕ) (fault : ℕ) → 2 ≤ length bytes → ((place : ℕ) → end ≡ Err place → place ≤ length bytes) → after_entries bytes end ≡ Some fault → fault ≤ length bytes
-after_within bytes (Err place) fault long within e = let here : place ≡ fault = cc in omega (arith, within place refl)
-after_within bytes (Ok end) fault long within e =
-    guarded (length bytes) (not (eqb (wide_numbers (form_in bytes)) (slice_index bytes 1))) 1 fault _ e (λ _. omega arith) (λ e1 _.
-    guarded (length bytes) (ltb end (length bytes)) end fault None e1 (λ more. omega (arith, ltb-true end (length bytes) more)) (λ e2 _. not_none (length bytes) fault e2))
+after_within : (bytes : List ℕ) (end : Result ℕ ℕ) (fault : ℕ) → ((place : ℕ) → end ≡ Err place → place ≤ length bytes) → after_entries bytes end ≡ Some fault → fault ≤ length bytes
+after_within bytes (Err place) fault within e = let here : place ≡ fault = cc in omega (arith, within place refl)
+after_within bytes (Ok end) fault within e =
+    guarded (length bytes) (ltb end (length bytes)) end fault None e (λ more. omega (arith, ltb-true end (length bytes) more)) (λ e1 _. not_none (length bytes) fault e1)
 
 pub fault_within : (bytes : List ℕ) (fault : ℕ) → short_fault bytes ≡ Some fault → fault ≤ length bytes
 unfolding short_fault
@@ -57,6 +57,7 @@ fault_within bytes fault e =
     let width : ℕ = width_in bytes in
     let end : Result ℕ ℕ = entries_end (slice_index bytes 0) width first_position (end_limit (slice_index bytes 0)) (2 + width) (drop (2 + width) bytes) in
     guarded (length bytes) (ltb (length bytes) 2) (length bytes) fault _ e (λ _. omega arith) (λ e1 _.
-    guarded (length bytes) (ltb (length bytes) (2 + width)) (length bytes) fault (after_entries bytes end) e1 (λ _. omega arith) (λ e2 whole.
+    guarded (length bytes) (ltb (length bytes) (2 + width)) (length bytes) fault _ e1 (λ _. omega arith) (λ e2 whole.
     let long = ltb-false (length bytes) (2 + width) whole in
-    after_within bytes end fault (omega arith) (λ place is. omega (arith, entries_within (slice_index bytes 0) width first_position (end_limit (slice_index bytes 0)) (2 + width) place (drop (2 + width) bytes) is, length-drop (2 + width) bytes)) e2))
+    guarded (length bytes) (counts_wrong bytes) 1 fault (after_entries bytes end) e2 (λ _. omega arith) (λ e3 _.
+    after_within bytes end fault (λ place is. omega (arith, entries_within (slice_index bytes 0) width first_position (end_limit (slice_index bytes 0)) (2 + width) place (drop (2 + width) bytes) is, length-drop (2 + width) bytes)) e3)))

@@ -1,14 +1,12 @@
 //! Whether bytes are a short form, and where they first fail.
 
-ghost use Rattle.std.specs.Prelude.{◌≡◌, ◌+◌, ◌≤◌, ◌<◌, ℕ, ◌^◌, nat_le, count_by, length, drop, slice_index, IfOk, IfErr, Some};
+ghost use Rattle.std.specs.Prelude.{◌≡◌, ◌+◌, ◌≤◌, ◌<◌, ◌^◌, nat_le, if◌then◌else◌, length, drop, slice_index, IfOk, IfErr, Some};
 ghost use Rattle.xn_bytes.specs.Entries.{data_entry_length};
 ghost use Rattle.xn_bytes.specs.Numbers.{number_at};
-ghost use Rattle.xn_bytes.specs.ShortDirectory.{short_fault, entry_fault, entries_end, first_position, end_limit, entry_size, width_in, wide_numbers, form_in, fits_position};
+ghost use Rattle.xn_bytes.specs.ShortDirectory.{short_fault, entry_fault, entries_end, first_position, end_limit, entry_size, width_in, fits_position};
 ghost use Rattle.xn_short.specs.Widths.{byte_count};
-ghost use Rattle.xn_short.specs.Whole.{AreWhole};
-ghost use Rattle.xn_short.specs.Checks.{FindsFault, FindsEnd};
+ghost use Rattle.xn_short.specs.Checks.{FindsFault, FindsEnd, wide_count_in, counts_wrong};
 
-use crate::entry::ShortEntries;
 use crate::fault::ShortFault;
 use crate::layout::{NAME, PARENT, POSITION};
 use crate::width::NumberWidth;
@@ -37,10 +35,10 @@ pub(crate) fn check(bytes: &[u8]) -> Result<(), ShortFault>
     ensures { FindsFault (short_fault bytes.now) result }
 {
     let width = width_of(bytes)?;
-    let end = end_of_entries(bytes, width)?;
-    if wide_count(bytes, width) != usize::from(bytes[1]) {
+    if is_wide_count_wrong(bytes, width) {
         return Err(fault_at(1));
     }
+    let end = end_of_entries(bytes, width)?;
     if end < bytes.len() {
         return Err(fault_at(end));
     }
@@ -62,6 +60,46 @@ fn width_of(bytes: &[u8]) -> Result<NumberWidth, ShortFault>
         return Err(fault_at(bytes.len()));
     }
     Ok(width)
+}
+
+// Whether all the entries' bytes are there, and the count of wide inode numbers is not theirs.
+fn is_wide_count_wrong(bytes: &[u8], width: NumberWidth) -> bool
+    requires width { byte_count width ≡ width_in bytes.now }
+    requires within { 2 + byte_count width ≤ length bytes.now }
+    ensures { result ≡ counts_wrong bytes.now }
+{
+    match wide_count(bytes, width) {
+        Some(count) => count != usize::from(bytes[1]),
+        None => false,
+    }
+}
+
+// How many inode numbers need eight bytes, the parent's included, where all the entries' bytes are there.
+fn wide_count(bytes: &[u8], width: NumberWidth) -> Option<usize>
+    requires width { byte_count width ≡ width_in bytes.now }
+    requires within { 2 + byte_count width ≤ length bytes.now }
+    ensures { result ≡ wide_count_in bytes.now }
+{
+    let count = bytes[0];
+    let mut wide = wide_at(bytes, PARENT, width);
+    let mut at = PARENT + width.bytes();
+    for _ in 0..count {
+        let number = at + NAME + 1 + usize::from(*bytes.get(at)?);
+        at = number + width.bytes();
+        if bytes.len() < at {
+            return None;
+        }
+        wide += wide_at(bytes, number, width);
+    }
+    Some(wide)
+}
+
+// One where the inode number at a place needs eight bytes.
+fn wide_at(bytes: &[u8], at: usize, width: NumberWidth) -> usize
+    requires { at + byte_count width ≤ length bytes.now }
+    ensures { result ≡ (if nat_le (2 ^ 32) (number_at (byte_count width) at bytes.now) then 1 else 0) }
+{
+    usize::from(width.number_at(bytes, at) > u64::from(u32::MAX))
 }
 
 // The place where the entries end.
@@ -142,29 +180,4 @@ fn is_position(rest: &[u8], least: u64, limit: u64) -> bool
 {
     let position = u64::from(u16_at(rest, POSITION));
     least <= position && position % 8 == 0 && end_in_block(rest) <= limit
-}
-
-// How many inode numbers need eight bytes, the parent's included.
-fn wide_count(bytes: &[u8], width: NumberWidth) -> usize
-    requires width { byte_count width ≡ width_in bytes.now }
-    requires within { 2 + byte_count width ≤ length bytes.now }
-    requires whole { AreWhole (slice_index bytes.now 0) (byte_count width) (drop (2 + byte_count width) bytes.now) }
-    ensures { result ≡ wide_numbers (form_in bytes.now) }
-{
-    let entries = ShortEntries::new(bytes[0], width, &bytes[PARENT + width.bytes()..]);
-    usize::from(is_wide(width.number_at(bytes, PARENT))) + wide_among(entries)
-}
-
-fn wide_among(entries: ShortEntries<'_>) -> usize
-    requires { length entries < 256 }
-    ensures within { result < 256 }
-    ensures value { result ≡ count_by (λ entry. nat_le (2 ^ 32) entry.ino) entries.entry }
-{
-    entries.filter(|entry| is_wide(entry.ino)).count()
-}
-
-fn is_wide(ino: u64) -> bool
-    ensures { result ≡ nat_le (2 ^ 32) ino }
-{
-    ino > u64::from(u32::MAX)
 }

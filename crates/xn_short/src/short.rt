@@ -33,8 +33,9 @@ impl<'a> Model for Short<'a> {
 }
 
 impl<'a> Short<'a> {
-    /// The form that the bytes spell, all of the bytes. Where they spell none, the error has the first place at which
-    /// they fail, or 1 where the count of inode numbers that need eight bytes is wrong. Takes no memory.
+    /// The form that the bytes spell, all of the bytes. Where they spell none, the error has the earliest place at which
+    /// they fail. The count of inode numbers that need eight bytes is compared where all the entries' bytes are there.
+    /// Takes no memory.
     pub fn read(bytes: &'a [u8]) -> Result<Short<'a>, ShortFault>
         // What is read is spelled so.
         ensures found { IfOk result (λ short. ShortHolds bytes.now short) }

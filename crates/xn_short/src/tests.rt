@@ -25,8 +25,8 @@ fn fault_of(bytes: &[u8]) -> Option<u64> {
     }
 }
 
-fn with(mut bytes: [u8; 15], place: usize, byte: u8) -> [u8; 15]
-    requires { place < 15 }
+fn with<const N: usize>(mut bytes: [u8; N], place: usize, byte: u8) -> [u8; N]
+    requires { place < N }
 {
     bytes[place] = byte;
     bytes
@@ -88,15 +88,11 @@ fn short_texts(rt: HostRuntime) {
 #[test]
 fn faults(rt: HostRuntime) {
     let longer = [1, 0, 0, 0, 0, 0x80, 1, 0, 0x60, b'a', 1, 0, 0, 0, 0x83, 0];
-    let small_in_eight_bytes = [
-        1, 1, 0, 0, 0, 0, 0, 0, 0, 0x80, 1, 0, 0x60, b'a', 1, 0, 0, 0, 0, 0, 0, 0, 0x83,
-    ];
     let overlapping = [
         2, 0, 0, 0, 0, 0x80, 2, 0, 0x60, b'a', b'b', 1, 0, 0, 0, 0x83, 1, 0, 0x68, b'a', 2, 0, 0,
         0, 0x84,
     ];
     assert_eq!(rt; fault_of(&longer), Some(15));
-    assert_eq!(rt; fault_of(&small_in_eight_bytes), Some(1));
     assert_eq!(rt; fault_of(&overlapping), Some(17));
     let last = with(ONE, 7, 0x0f);
     assert_eq!(rt; fault_of(&with(last, 8, 0xd0)), None);
@@ -111,4 +107,17 @@ fn faults(rt: HostRuntime) {
     for (place, byte, at) in changed {
         assert_eq!(rt; fault_of(&with(ONE, place, byte)), Some(at));
     }
+}
+
+#[test]
+fn wrong_count_first(rt: HostRuntime) {
+    // no number is wide
+    let counted = [
+        1, 1, 0, 0, 0, 0, 0, 0, 0, 0x80, 1, 0, 0x60, b'a', 1, 0, 0, 0, 0, 0, 0, 0, 0x83,
+    ];
+    assert_eq!(rt; fault_of(&counted), Some(1));
+    assert_eq!(rt; fault_of(&with(counted, 14, 9)), Some(1));
+    let misplaced = with(counted, 12, 0x61);
+    assert_eq!(rt; fault_of(&misplaced), Some(1));
+    assert_eq!(rt; fault_of(&misplaced[..22]), Some(11));
 }

@@ -1,17 +1,24 @@
-use Rattle.std.proofs.Common.{rules, cond, ◌≡◌, ◌+◌, arith, ap, ◌∙◌, length, slice_index}
-use Rattle.std.proofs.lemmas.List.{take_rest}
-use Rattle.xn_bytes.specs.ShortDirectory.{entries_in}
+use Rattle.std.proofs.Common.{◌+◌, sym, ◌∙◌, arith}
+use Rattle.std.proofs.lemmas.Bool.{ltb-false}
 use Rattle.xn_short.specs.Widths.{byte_count}
-use Rattle.xn_short.proofs.Entries.{length-entries_in}
-use Rattle.xn_short.proofs.Verdicts.{wide_total}
+use Rattle.xn_short.proofs.Counting.{counts_from, counts_on, counts_missing, counts_past, counts_all}
 use Rattle.xn_short.proofs.check.wide_count.Goals as goal
 
-pub wide_among-requires : goal.wide_among-requires
-wide_among-requires c = omega (arith, ap length c.new-entries.ensures, length-entries_in, c.type_inv.bytes 0)
+pub loop-init : goal.loop-init
+loop-init c = counts_from c.args.bytes.now (byte_count c.args.width) c.bytes-at.result c.wide_at-wide.result c.requires.width c.requires.within c.bytes-at.ensures c.wide_at-wide.ensures
+
+pub returns-in_err-get : goal.returns-in_err-get
+returns-in_err-get c = c.from_residual.ensures ∙ sym (counts_past _ c.loop.counter (byte_count c.args.width) c.loop.wide c.loop.at c.args.bytes.now _ c.loop.invariant c.loop-test.true (ltb-false _ _ (sym c.in_err-get.ensures.lookup.0)))
+
+pub returns-then-bytes-at : goal.returns-then-bytes-at
+returns-then-bytes-at c =
+    let byte = c.from.ensures ∙ c.in_ok-get.ensures.lookup.3.1 0 in
+    sym (counts_missing _ c.loop.counter (byte_count c.args.width) c.bytes.result c.loop.wide c.loop.at c.from.result c.args.bytes.now _ c.loop.invariant c.loop-test.true byte c.bytes.ensures (omega arith))
+
+pub loop-preserved : goal.loop-preserved
+loop-preserved c =
+    let byte = c.from.ensures ∙ c.in_ok-get.ensures.lookup.3.1 0 in
+    counts_on _ c.loop.counter (byte_count c.args.width) c.bytes.result c.loop.wide c.wide_at.result c.loop.at c.from.result (c.loop.at + 3 + 1 + c.from.result) (c.loop.at + 3 + 1 + c.from.result + c.bytes.result) c.args.bytes.now _ c.loop.invariant c.loop-test.true byte c.bytes.ensures (omega arith) (omega arith) (omega arith) c.wide_at.ensures
 
 pub returns : goal.returns
-returns c =
-    let first : c.from.result ≡ cond c.is_wide.result 1 0 = search (rules, c.from.ensures) in
-    wide_total c.args.bytes.now (byte_count c.args.width) c.number_at.result c.is_wide.result c.from.result c.wide_among.result c.new-entries.result c.requires.width c.number_at.ensures
-    (c.new-entries.ensures ∙ ap (entries_in (slice_index c.args.bytes.now 0) (byte_count c.args.width)) (rw c.bytes.ensures (take_rest c.args.bytes.now (2 + byte_count c.args.width))))
-    c.is_wide.ensures first c.wide_among.ensures.value
+returns c = sym (counts_all _ c.loop.counter (byte_count c.args.width) c.loop.wide c.loop.at c.args.bytes.now _ c.loop.invariant c.loop-test.false)
