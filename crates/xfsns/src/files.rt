@@ -50,6 +50,12 @@ impl<F: Read + Write + Seek + OpenFile + Drop, W: Write + Drop> FileMachine<F, W
             say_faults: 0,
         }
     }
+
+    /// What the output has become.
+    #[cfg(test)]
+    pub fn output(&self) -> &W {
+        &self.output
+    }
 }
 
 fn read_at<F: Read + Seek>(file: &mut Option<F>, at: u64, into: &mut [u8]) -> io::Result<()> {

@@ -90,3 +90,6 @@ fn cannot_open<R: Eprint>(rt: &R, word: &str) -> u8 {
     let _ = eprintln!(rt; "cannot open {word}");
     CANNOT_OPEN
 }
+
+#[cfg(test)]
+mod tests;

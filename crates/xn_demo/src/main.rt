@@ -1,0 +1,37 @@
+//! Writes `demo.img`, a small image whose root directory holds a few names, and `demo.manifest` into the folder that it
+//! runs in.
+#![tactic(auto)]
+
+ghost use Rattle.std.specs.Prelude.{◌^◌, ◌<◌};
+
+use anyhow::{Context, Result};
+use std::fs;
+use std::fs::{File, Files, OpenFile};
+use std::io::{Seek, SeekFrom, Write};
+use xn_make::{ROOT, ROOT_SECTOR, SECTORS, directory_inode, superblock};
+
+/// A directory in short form: parent 128, and the entries `a`, `file one` and `caf` with two bytes of UTF-8.
+const FORM: &[u8; 44] = b"\x03\x00\x00\x00\x00\x80\
+\x01\x00\x60a\x01\x00\x00\x00\x83\
+\x08\x00\x70file one\x01\x00\x00\x00\x84\
+\x05\x00\x88caf\xc3\xa9\x02\x00\x00\x00\x85";
+
+const MANIFEST: &str = "xfsns-manifest 1\nchunk 128 0000000000000000\n";
+
+fn main(rt: HostRuntime) -> Result<()> {
+    let mut image = File::create(&rt, "demo.img").context("making demo.img")?;
+    image.set_len(512 * SECTORS)?;
+    write_sector(&mut image, 0, &superblock())?;
+    write_sector(&mut image, ROOT_SECTOR, &directory_inode(ROOT, FORM))?;
+    fs::write(&rt, "demo.manifest", MANIFEST).context("making demo.manifest")?;
+    println!(rt; "demo.img and demo.manifest are made; the root directory is inode {ROOT}")?;
+    Ok(())
+}
+
+fn write_sector<F: Write + Seek>(file: &mut F, sector: u64, bytes: &[u8; 512]) -> Result<()>
+    requires { sector < 2 ^ 32 }
+{
+    file.seek(SeekFrom::Start(512 * sector))?;
+    file.write_all(bytes)?;
+    Ok(())
+}
