@@ -1,7 +1,7 @@
 -- Numbers at places in bytes.
-use Rattle.std.proofs.Common.{◌≡◌, ℕ, ◌+◌, ◌*◌, ◌^◌, ◌<◌, ◌≤◌, List, ◌++◌, length, take, drop, get_or, slice_index, refl, sym, ap, ◌∙◌, arith, add-zero}
+use Rattle.std.proofs.Common.{◌≡◌, ℕ, List, drop, get_or, slice_index, refl, arith, add-zero}
 use Rattle.std.proofs.lemmas.List.{get_or-drop}
-use Rattle.xn_bytes.specs.Numbers.{number_at, little_number_at}
+use Rattle.xn_bytes.specs.Numbers.{number_at}
 
 -- the number of one byte is that byte
 pub one_byte : (at : ℕ) (bytes : List ℕ) → number_at 1 at bytes ≡ slice_index bytes at

@@ -1,7 +1,7 @@
 -- The register of a checksum: its steps take sums (by xor) to sums, so that bytes can be looked up apart.
-use Rattle.std.proofs.Common.{◌≡◌, ℕ, zero, suc, ◌+◌, ◌*◌, ◌/◌, ◌%◌, ◌^◌, ◌<◌, ◌≤◌, Bool, true, false, cond, eqb, List, [], ◌∷◌, ◌++◌, length, get_or, refl, sym, ap, subst, ◌∙◌, arith, inl, inr, zero-add, suc-add}
+use Rattle.std.proofs.Common.{◌≡◌, ℕ, zero, suc, ◌+◌, ◌*◌, ◌/◌, ◌%◌, ◌^◌, ◌<◌, List, [], ◌∷◌, ◌++◌, length, get_or, refl, sym, ap, ◌∙◌, arith, inl, inr, zero-add, suc-add}
 use Rattle.std.proofs.Math.Nat.{pow-suc, pow-zero, mod-eq_of_lt}
-use Rattle.std.specs.Prelude.{◌⊎◌, ◌==◌, bit_xor, fold}
+use Rattle.std.specs.Prelude.{◌⊎◌, bit_xor}
 use lib.Bits.{xor_shr, xor_mod, xor_shifted, xor_assoc, xor_comm, xor_self, xor_zero_r}
 use Rattle.xn_bytes.specs.Checksum.{polynomial, bit_step, bit_steps, byte_step, register_after}
 

@@ -1,5 +1,5 @@
 -- A superblock with a first field that is not accepted is none.
-use Rattle.std.proofs.Common.{◌≡◌, ℕ, List, inl, inr}
+use Rattle.std.proofs.Common.{ℕ, List, inl, inr}
 use Rattle.std.specs.Prelude.{◌⊎◌}
 use Rattle.xn_bytes.specs.Superblock.{IsSuperblock, FirstFieldBroken}
 

@@ -3,7 +3,7 @@ use Rattle.std.proofs.Common.{◌≡◌, ℕ, zero, suc, ◌+◌, ◌<◌, List,
 use Rattle.std.specs.Prelude.{map, slice_index}
 use Rattle.std.proofs.lemmas.List.{get_or-map}
 use Rattle.xn_bytes.specs.declared.tables.TheConstants.{AFTER_8, AFTER_16, AFTER_24, AFTER_32, AFTER_40, AFTER_48, AFTER_56, AFTER_64}
-use Rattle.xn_bytes.specs.Checksum.{bit_step, bit_steps}
+use Rattle.xn_bytes.specs.Checksum.{bit_steps}
 use Rattle.std.proofs.lemmas.Simd.{map-map}
 use Rattle.xn_bytes.proofs.Registers.{bit_steps-add}
 

@@ -1,5 +1,5 @@
 -- What a test's answer says of the fact that it decides.
-use Rattle.std.proofs.Common.{◌≡◌, Bool, true, false, refl}
+use Rattle.std.proofs.Common.{true, false, refl}
 use Rattle.std.specs.Prelude.{IsTrue, ◌↔◌}
 
 pub holds : {P : Type 0} → (IsTrue true ↔ P) → P

@@ -1,6 +1,6 @@
 -- CRC32c, from its polynomial, on bits. (Castagnoli's polynomial, as RFC 3720, 12.1, and the metadata
 -- checksums of "XFS Algorithms and Data Structures" use it.)
-use Rattle.std.specs.Prelude.{◌≡◌, ℕ, zero, suc, ◌+◌, ◌*◌, ◌/◌, ◌%◌, ◌^◌, ◌==◌, if◌then◌else◌, List, [], ◌∷◌, ◌++◌, length, replicate, fold, bit_xor}
+use Rattle.std.specs.Prelude.{◌≡◌, ℕ, zero, suc, ◌+◌, ◌*◌, ◌/◌, ◌%◌, ◌^◌, ◌==◌, if◌then◌else◌, List, replicate, fold, bit_xor}
 use Rattle.xn_bytes.specs.Numbers.{little_number_at, overlaid}
 
 -- the low `width` bits of a number in the opposite order

@@ -1,6 +1,6 @@
 -- The kinds of inodes, with their numbers in directory entries (`XFS_DIR3_FT_*` of `xfs_da_format.h`), their
 -- bits in an inode's mode (`S_IFMT` of `stat.h`) and their words in replies.
-use Rattle.std.specs.Prelude.{ℕ, ◌+◌, ◌*◌, ◌/◌, ◌==◌, if◌then◌else◌, List, codes, Option, Some, None}
+use Rattle.std.specs.Prelude.{ℕ, ◌/◌, ◌==◌, if◌then◌else◌, List, codes, Option, Some, None}
 use Rattle.xn_bytes.specs.declared.kind.Kind.{Kind}
 use Rattle.xn_bytes.specs.declared.kind.Kind.TheVariants.{Reg, Dir, Chr, Blk, Fifo, Sock, Lnk}
 

@@ -1,8 +1,7 @@
 -- Directories in short form: the entries stand in the inode's data fork (`struct xfs_dir2_sf_hdr` and
 -- `xfs_dir2_sf_entry` of `xfs_da_format.h`, with the kind behind the name).
-use Rattle.std.specs.Prelude.{◌≡◌, ◌⊎◌, ◌↔◌, ℕ, zero, suc, ◌+◌, ◌-◌, ◌*◌, ◌/◌, ◌%◌, ◌^◌, ◌<◌, ◌≤◌, Bool, true, ◌==◌, ◌&&◌, nat_lt, nat_le, not, if◌then◌else◌, List, [], ◌∷◌, ◌++◌, length, take, drop, slice_index, slice_range, count_by, flat_map, All, Option, Some, None, Result, Ok, Err, is_none, unwrap_or}
+use Rattle.std.specs.Prelude.{◌≡◌, ℕ, zero, suc, ◌+◌, ◌-◌, ◌*◌, ◌%◌, ◌^◌, ◌<◌, ◌≤◌, Bool, true, ◌==◌, ◌&&◌, nat_lt, nat_le, not, if◌then◌else◌, List, [], ◌∷◌, ◌++◌, length, drop, slice_index, slice_range, count_by, flat_map, All, Option, Some, None, Result, Ok, Err, is_none, unwrap_or}
 use Rattle.byteorder.specs.Endian.{big_bytes}
-use Rattle.xn_bytes.specs.declared.kind.Kind.{Kind}
 use Rattle.xn_bytes.specs.declared.kind.Kind.TheVariants.{Reg}
 use Rattle.xn_bytes.specs.Numbers.{number_at}
 use Rattle.xn_bytes.specs.Kinds.{kind_number, kind_of_number}

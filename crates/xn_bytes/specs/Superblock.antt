@@ -1,6 +1,6 @@
 -- The superblock in sector 0 of an image (`struct xfs_dsb` of `xfs_format.h`), what of it this project accepts,
 -- and the places of blocks and inodes that follow from it.
-use Rattle.std.specs.Prelude.{◌≡◌, ◌≢◌, ◌⊎◌, ℕ, ◌+◌, ◌-◌, ◌*◌, ◌/◌, ◌%◌, ◌^◌, ◌<◌, ◌≤◌, Bool, true, false, IsTrue, nat_lt, ◌==◌, if◌then◌else◌, List, [], ◌∷◌, length, take, slice_range, Any, bit_and}
+use Rattle.std.specs.Prelude.{◌≡◌, ◌≢◌, ◌⊎◌, ℕ, ◌+◌, ◌-◌, ◌*◌, ◌/◌, ◌%◌, ◌^◌, ◌<◌, ◌≤◌, Bool, IsTrue, ◌==◌, if◌then◌else◌, List, [], ◌∷◌, length, take, slice_range, Any, bit_and}
 use Rattle.xn_bytes.specs.Numbers.{number_at}
 use Rattle.xn_bytes.specs.Checksum.{HasChecksum}
 

@@ -1,6 +1,5 @@
-use Rattle.std.proofs.Common.{ℕ, ◌<◌, List, get_or, sym, ap, ◌∙◌, refl, arith}
-use Rattle.std.specs.Prelude.{bit_xor}
-use Rattle.xn_bytes.specs.Checksum.{bit_steps, register_after}
+use Rattle.std.proofs.Common.{ℕ, ◌<◌, get_or, sym, ap, ◌∙◌, arith}
+use Rattle.xn_bytes.specs.Checksum.{register_after}
 use Rattle.xn_bytes.proofs.Registers.{register_after-eight, of_eight}
 use Rattle.xn_bytes.proofs.checksum.after_eight.Goals as goal
 
