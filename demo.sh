@@ -1,0 +1,19 @@
+#!/usr/bin/env bash
+# Builds the program, makes a small image in the folder demo/, and lists its root directory.
+set -eu
+top=$(cd "$(dirname "$0")" && pwd)
+mkdir -p "$top/demo"
+
+# Proves and builds a program crate, and prints the path of what was built.
+build() {
+    (cd "$top/crates/$1" && rt run >/dev/null 2>"$top/demo/build-$1.log") || true
+    [ -x "$top/crates/$1/out/$1" ] || { tail "$top/demo/build-$1.log" >&2; exit 1; }
+    echo "$top/crates/$1/out/$1"
+}
+
+make_demo=$(build xn_demo)
+xfsns=$(build xfsns)
+cd "$top/demo"
+"$make_demo"
+echo "\$ xfsns list demo.img demo.manifest 128"
+"$xfsns" list demo.img demo.manifest 128
