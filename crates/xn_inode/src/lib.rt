@@ -9,3 +9,6 @@ mod superblock;
 
 pub use inode_core::{Core, CoreFault, EXTENTS_FORMAT, LOCAL_FORMAT};
 pub use superblock::{GeomFault, Super};
+
+#[cfg(test)]
+mod tests;

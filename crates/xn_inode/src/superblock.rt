@@ -1,8 +1,8 @@
 ghost use Rattle.std.specs.Prelude.{◌≡◌, ◌+◌, ◌*◌, ◌≤◌, ◌↔◌, IsTrue, MatchResult, MatchOption, length};
 ghost use Rattle.xn_bytes.specs.Superblock.{IsSuperblock, FirstFieldBroken, geometry_of, sector_of_block, sector_of_inode, IsBlock, IsInode, IsOwnInode};
 
-use crate::fields::Fields;
 use crate::accepted;
+use crate::fields::Fields;
 use std::marker::Model;
 
 const SECTORS_PER_BLOCK: u64 = 8;
