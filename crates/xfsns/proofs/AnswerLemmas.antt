@@ -1,13 +1,13 @@
 -- From an inode's bytes to the image, and from a form to any form that the bytes spell.
-use Rattle.std.proofs.Common.{◌≡◌, ℕ, List, Option, Some, None, refl, sym, ap, subst, ◌∙◌}
+use Rattle.std.proofs.Common.{◌≡◌, ℕ, List, Option, Some, None, sym, ap, subst, ◌∙◌}
 use Rattle.std.specs.Prelude.{IfSome}
 use Rattle.xn_bytes.specs.declared.status.Status.{Status}
 use Rattle.xn_bytes.specs.declared.status.Status.TheVariants.{Done, Usage, Image, ReadFault, SayFault, Memory, Unbuilt}
 use Rattle.xn_bytes.specs.Superblock.{Geometry}
 use Rattle.xn_bytes.specs.Inode.{inode_of}
 use Rattle.xn_bytes.specs.ShortDirectory.{ShortForm, ShortHolds}
-use Rattle.xn_bytes.specs.Directory.{IsLive, HasNames, short_bytes_of, IsListing}
-use Rattle.xn_bytes.specs.Outcome.{IsPlain, HasSuperblock, geometry_in, inode_in, ListAnswers, list_text}
+use Rattle.xn_bytes.specs.Directory.{IsLive, HasNames, short_bytes_of}
+use Rattle.xn_bytes.specs.Outcome.{IsPlain, HasSuperblock, geometry_in, inode_in, ListAnswers}
 use Rattle.xfsns.specs.Answer.{AnswersOfInode}
 use Rattle.xfsns.specs.Plain.{HasPlainForm}
 

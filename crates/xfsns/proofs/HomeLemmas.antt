@@ -1,10 +1,9 @@
 -- The superblock that is read is that of the image.
-use Rattle.std.proofs.Common.{◌≡◌, ℕ, ◌*◌, ◌/◌, ◌≤◌, List, length, Option, Some, None, Result, Ok, Err, refl, sym, ap, subst, ◌∙◌, arith}
+use Rattle.std.proofs.Common.{◌≡◌, ℕ, ◌*◌, ◌/◌, List, length, Option, Some, None, Result, Ok, Err, sym, ap, subst, ◌∙◌, arith}
 use Rattle.std.specs.Prelude.{IfSome, MatchResult}
 use Rattle.std.specs.Result.{result_ok}
 use Rattle.xn_bytes.specs.Numbers.{sector_of}
 use Rattle.xn_bytes.specs.Superblock.{Geometry, IsSuperblock, FirstFieldBroken, geometry_of}
-use Rattle.xn_bytes.specs.Outcome.{HasSuperblock, geometry_in}
 use Rattle.xn_bytes.proofs.SuperblockLemmas.{broken_is_none}
 use Rattle.xn_machine.specs.Device.{read_from}
 use Rattle.xn_inode.specs.declared.superblock.GeomFault.{GeomFault}

@@ -1,5 +1,5 @@
 -- Entries that are sorted to be listed.
-use Rattle.std.specs.Prelude.{◌≡◌, ℕ, List, map, IsSortedBy, Option, Some, None}
+use Rattle.std.specs.Prelude.{List, map, IsSortedBy, Option, Some, None}
 use Rattle.std.specs.Ordering.{nat_cmp, is_lt}
 use Rattle.std.specs.Cmp.Lexicographic.{slice_cmp}
 use Rattle.std.specs.Global.{Vec}

@@ -1,5 +1,5 @@
 -- What telling an answer leaves.
-use Rattle.std.specs.Prelude.{◌≡◌, ◌⊎◌, ℕ, ◌≤◌, List, Option, option_map, ◌++◌}
+use Rattle.std.specs.Prelude.{◌≡◌, ◌⊎◌, ℕ, List, Option, option_map, ◌++◌}
 use Rattle.xn_bytes.specs.declared.status.Status.{Status}
 use Rattle.xn_bytes.specs.declared.status.Status.TheVariants.{SayFault}
 use Rattle.xn_bytes.specs.Causes.{Rose}

@@ -89,7 +89,11 @@ pub fn image(alloc: Global, form: &[u8]) -> Result<Vec<u8>, Memory>
 {
     let mut image = blank(alloc, SECTORS as usize)?;
     put_sector(&mut image, 0, &superblock());
-    put_sector(&mut image, ROOT_SECTOR as usize, &directory_inode(ROOT, form));
+    put_sector(
+        &mut image,
+        ROOT_SECTOR as usize,
+        &directory_inode(ROOT, form),
+    );
     Ok(image)
 }
 
