@@ -1,5 +1,5 @@
 -- The fields that the crate keeps of a superblock, seen as its geometry.
-use Rattle.std.specs.Prelude.{◌≢◌, ℕ, ◌+◌, ◌-◌, ◌*◌, ◌^◌, ◌<◌, ◌≤◌, List}
+use Rattle.std.specs.Prelude.{◌≢◌, ◌+◌, ◌-◌, ◌*◌, ◌^◌, ◌<◌, ◌≤◌}
 use Rattle.xn_bytes.specs.Superblock.{Geometry, group_of, block_in_group, linear_block}
 use Rattle.xn_inode.specs.declared.fields.Fields.{Fields}
 

@@ -1,5 +1,5 @@
-use Rattle.std.proofs.Common.{ℕ, List, refl, subst, inl, inr}
-use Rattle.xn_bytes.specs.Superblock.{Geometry, geometry_of, HasMagic, HasRightChecksum, HasVersion, HasBlockSize, HasSectorSize, HasInodeSize, HasGroups, HasDirectoryBlocks, HasLog, HasIncompat, HasReadOnlyCompat, HasRoot, HasLength}
+use Rattle.std.proofs.Common.{refl, subst, inl, inr}
+use Rattle.xn_bytes.specs.Superblock.{Geometry, HasGroups, HasLog, HasRoot, HasLength}
 use Rattle.xn_bytes.proofs.TestLemmas.{holds, fails}
 use Rattle.xn_inode.proofs.superblock.broken_field.Goals as goal
 
