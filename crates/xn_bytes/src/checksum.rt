@@ -1,4 +1,4 @@
-ghost use Rattle.std.specs.Prelude.{◌≡◌, ◌+◌, ◌≤◌, ◌↔◌, ◌++◌, ℕ, List, [], length, IsTrue, bit_xor};
+ghost use Rattle.std.specs.Prelude.{◌≡◌, ◌+◌, ◌<◌, ◌≤◌, ◌↔◌, ◌++◌, ℕ, List, [], length, IsTrue, bit_xor};
 ghost use Rattle.xn_bytes.specs.Checksum.{byte_step, register_after, register_of, crc32c, checksum_with, HasChecksum};
 
 use crate::numbers::little_u32_at;
@@ -49,7 +49,8 @@ impl Crc {
 
 /// Goes over eight bytes at a time, and answers the register and the fewer than eight bytes that are left.
 fn after_eights(register: u32, bytes: &[u8]) -> (u32, &[u8])
-    ensures { register_after result.0 result.1.now ≡ register_after register bytes.now }
+    ensures same { register_after result.0 result.1.now ≡ register_after register bytes.now }
+    ensures few { length result.1.now < 8 }
 {
     let mut register = register;
     let mut rest = bytes;
