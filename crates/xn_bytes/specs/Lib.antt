@@ -3,9 +3,11 @@ pub mod Checksum
 pub mod Names
 pub mod Kinds
 pub mod Escapes
+pub mod Hashes
 pub mod Superblock
 pub mod Inode
 pub mod Entries
+pub mod Extents
 pub mod ShortDirectory
 pub mod Directory
 pub mod Causes

@@ -5,6 +5,7 @@
 mod bytes;
 mod checksum;
 mod escapes;
+mod hash;
 mod kind;
 mod memory;
 mod name;
@@ -15,6 +16,7 @@ mod tables;
 pub use bytes::Bytes;
 pub use checksum::{Crc, checksum_of, has_checksum};
 pub use escapes::escape;
+pub use hash::{name_hash, parent_hash};
 pub use kind::Kind;
 pub use memory::Memory;
 pub use name::{Name, NameFault, is_name};

@@ -81,3 +81,21 @@ fn kinds_and_statuses(rt: HostRuntime) {
     assert!(rt; Kind::from_mode(0).is_none());
     assert_eq!(rt; Status::Unbuilt.number(), 11);
 }
+
+#[test]
+fn hashes(rt: HostRuntime) {
+    let cases: [(&[u8], u32); 8] = [
+        (b"", 0),
+        (b".", 0x2e),
+        (b"..", 0x172e),
+        (b"abc", 0x0018_7163),
+        (b"abcd", 0x0c38_b1e4),
+        (b"abcde", 0x1c58_f263),
+        (b"\x61\x41", 0x30c1),
+        (b"\x60\xc1", 0x30c1),
+    ];
+    for (name, hash) in cases {
+        assert_eq!(rt; name_hash(name), hash, "{name:?}");
+    }
+    assert_eq!(rt; parent_hash(b"abcd", 0x1_0000_0080), 0x0c38_b165);
+}
