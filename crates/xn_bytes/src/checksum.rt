@@ -1,7 +1,9 @@
 ghost use Rattle.std.specs.Prelude.{◌≡◌, ◌+◌, ◌<◌, ◌≤◌, ◌↔◌, ◌++◌, ℕ, List, [], length, IsTrue, bit_xor};
 ghost use Rattle.xn_bytes.specs.Checksum.{byte_step, register_after, register_of, crc32c, checksum_with, HasChecksum};
+ghost use Rattle.xn_bytes.specs.Numbers.{overlaid};
+ghost use Rattle.byteorder.specs.Endian.{little_bytes};
 
-use crate::numbers::little_u32_at;
+use crate::numbers::{little_u32_at, put_little_u32};
 use crate::tables::{
     after_8, after_16, after_24, after_32, after_40, after_48, after_56, after_64,
 };
@@ -114,4 +116,14 @@ pub fn has_checksum(bytes: &[u8], at: usize) -> bool
     ensures { IsTrue result ↔ HasChecksum bytes.now at }
 {
     little_u32_at(bytes, at) == checksum_of(bytes, at)
+}
+
+/// Puts the right checksum at its place, lowest byte first.
+pub fn put_checksum(bytes: &mut [u8], at: usize)
+    requires { at + 4 ≤ length bytes.old }
+    ensures value { bytes.new ≡ overlaid bytes.old at (little_bytes 4 (checksum_with bytes.old at)) }
+    ensures right { HasChecksum bytes.new at }
+{
+    let checksum = checksum_of(bytes, at);
+    put_little_u32(bytes, at, checksum);
 }

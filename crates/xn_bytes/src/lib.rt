@@ -14,13 +14,15 @@ mod status;
 mod tables;
 
 pub use bytes::Bytes;
-pub use checksum::{Crc, checksum_of, has_checksum};
+pub use checksum::{Crc, checksum_of, has_checksum, put_checksum};
 pub use escapes::escape;
 pub use hash::{name_hash, parent_hash};
 pub use kind::Kind;
 pub use memory::Memory;
 pub use name::{Name, NameFault, is_name};
-pub use numbers::{little_u32_at, u8_at, u16_at, u32_at, u64_at};
+pub use numbers::{
+    little_u32_at, put_little_u32, put_u16, put_u32, put_u64, u8_at, u16_at, u32_at, u64_at,
+};
 pub use status::Status;
 
 #[cfg(test)]

@@ -1,7 +1,8 @@
 //! Numbers at places in the bytes of disk structures.
 
 ghost use Rattle.std.specs.Prelude.{◌≡◌, ◌+◌, ◌≤◌, length};
-ghost use Rattle.xn_bytes.specs.Numbers.{number_at, little_number_at};
+ghost use Rattle.xn_bytes.specs.Numbers.{number_at, little_number_at, overlaid};
+ghost use Rattle.byteorder.specs.Endian.{big_bytes, little_bytes};
 
 use byteorder::{BigEndian, ByteOrder, LittleEndian};
 
@@ -48,4 +49,36 @@ pub fn little_u32_at(bytes: &[u8], at: usize) -> u32
     ensures { result ≡ little_number_at 4 at bytes.now }
 {
     LittleEndian::read_u32(&bytes[at..])
+}
+
+/// Puts two bytes, the highest first, at a place.
+pub fn put_u16(bytes: &mut [u8], at: usize, number: u16)
+    requires { at + 2 ≤ length bytes.old }
+    ensures { bytes.new ≡ overlaid bytes.old at (big_bytes 2 number) }
+{
+    BigEndian::write_u16(&mut bytes[at..], number);
+}
+
+/// Puts four bytes, the highest first, at a place.
+pub fn put_u32(bytes: &mut [u8], at: usize, number: u32)
+    requires { at + 4 ≤ length bytes.old }
+    ensures { bytes.new ≡ overlaid bytes.old at (big_bytes 4 number) }
+{
+    BigEndian::write_u32(&mut bytes[at..], number);
+}
+
+/// Puts eight bytes, the highest first, at a place.
+pub fn put_u64(bytes: &mut [u8], at: usize, number: u64)
+    requires { at + 8 ≤ length bytes.old }
+    ensures { bytes.new ≡ overlaid bytes.old at (big_bytes 8 number) }
+{
+    BigEndian::write_u64(&mut bytes[at..], number);
+}
+
+/// Puts four bytes, the lowest first, at a place.
+pub fn put_little_u32(bytes: &mut [u8], at: usize, number: u32)
+    requires { at + 4 ≤ length bytes.old }
+    ensures { bytes.new ≡ overlaid bytes.old at (little_bytes 4 number) }
+{
+    LittleEndian::write_u32(&mut bytes[at..], number);
 }

@@ -99,3 +99,27 @@ fn hashes(rt: HostRuntime) {
     }
     assert_eq!(rt; parent_hash(b"abcd", 0x1_0000_0080), 0x0c38_b165);
 }
+
+#[test]
+fn numbers_are_put_where_they_are_read(rt: HostRuntime) {
+    let mut bytes = [0xeeu8; 20];
+    put_u16(&mut bytes, 1, 0x0102);
+    put_u32(&mut bytes, 3, 0x0304_0506);
+    put_u64(&mut bytes, 7, 0x0708_090a_0b0c_0d0e);
+    put_little_u32(&mut bytes, 15, 0x1211_100f);
+    assert_eq!(rt;
+        bytes.as_slice(),
+        b"\xee\x01\x02\x03\x04\x05\x06\x07\x08\x09\x0a\x0b\x0c\x0d\x0e\x0f\x10\x11\x12\xee".as_slice()
+    );
+}
+
+#[test]
+fn put_checksum_is_right(rt: HostRuntime) {
+    let mut bytes = *b"12345....6789";
+    put_checksum(&mut bytes, 5);
+    assert!(rt; has_checksum(&bytes, 5));
+    assert_eq!(rt; &bytes[..5], b"12345".as_slice());
+    assert_eq!(rt; &bytes[9..], b"6789".as_slice());
+    bytes[12] = 0;
+    assert!(rt; !has_checksum(&bytes, 5));
+}
