@@ -47,13 +47,14 @@ const TWO_GROUPS: [Number; 5] = [
 ];
 
 /// The root directory, inode 128, with 192 bytes of data fork.
-const DIRECTORY: [Number; 11] = [
+const DIRECTORY: [Number; 12] = [
     (0, 2, 0x494e),
     (2, 2, 0o040755),
     (4, 1, 3),
     (5, 1, 1),
     (16, 4, 2),
     (56, 8, 15),
+    (64, 8, 3),
     (82, 1, 24),
     (83, 1, 1),
     (92, 4, 1),
@@ -235,7 +236,7 @@ fn an_accepted_core(rt: HostRuntime) -> Result<(), Fail> {
     assert_eq!(rt; core.kind(), Kind::Dir);
     assert_eq!(rt; core.nlink(), 2);
     assert_eq!(rt; core.size(), 15);
-    assert_eq!(rt; core.nblocks(), 0);
+    assert_eq!(rt; core.nblocks(), 3);
     assert_eq!(rt; core.generation(), 1);
     assert_eq!(rt; core.forkoff(), 24);
     assert_eq!(rt; core.data_format(), LOCAL_FORMAT);
