@@ -1,6 +1,6 @@
 -- The text of bytes tells the bytes.
-use Rattle.std.proofs.Common.{◌≡◌, ◌≢◌, ◌∙◌, ℕ, ◌+◌, ◌-◌, ◌<◌, ◌/◌, ◌%◌, Bool, true, false, if◌then◌else◌, List, [], ◌∷◌, ◌++◌, length, take, drop, All, Result, Ok, Err, IfOk, IfErr, MatchResult, refl, ap, sym, arith, append_assoc, length-append, length-drop}
-use Rattle.std.proofs.lemmas.List.{take_at, drop_at, take-append-drop}
+use Rattle.std.proofs.Common.{◌≡◌, ◌≢◌, ◌∙◌, ℕ, ◌+◌, ◌-◌, ◌<◌, ◌≤◌, ◌/◌, ◌%◌, Bool, true, false, if◌then◌else◌, List, [], ◌∷◌, ◌++◌, length, take, drop, All, Result, Ok, Err, IfOk, IfErr, MatchResult, refl, ap, sym, arith, append_assoc, length-append, length-drop}
+use Rattle.std.proofs.lemmas.List.{take_at, drop_at, take-append-drop, length-take}
 use Rattle.std.proofs.lemmas.List.Elements.{All-head, All-tail}
 use Rattle.xn_bytes.specs.declared.escaped_text.EscapeFault.{EscapeFault}
 use Rattle.xn_bytes.specs.declared.escaped_text.EscapeFault.TheVariants.{Bad, Memory}
@@ -80,3 +80,28 @@ pub only_these : {X : Type 0} (items : X → List ℕ) (r : Result X EscapeFault
 only_these items (Ok v) text bytes found all exact ab e = one_text (items v) bytes all ab (sym found ∙ e)
 only_these items (Err (Bad at)) text bytes found all exact ab e = absurd (no_text text bytes at exact ab e)
 only_these items (Err Memory) text bytes found all exact ab e = refl
+
+-- of two texts of bytes at the front of one text, where no byte's text follows the first, the first is no shorter
+no_longer : (xs ys p q : List ℕ) → AreBytes xs → AreBytes ys → ((byte : ℕ) (after : List ℕ) → byte < 256 → p ≢ escaped_byte byte ++ after) → escaped xs ++ p ≡ escaped ys ++ q → length (escaped ys) ≤ length (escaped xs)
+no_longer xs [] p q ax ay none e = omega arith
+no_longer [] (y ∷ ys) p q ax ay none e = absurd (none y (escaped ys ++ q) (All-head (λ byte. byte < 256) y ys ay) (e ∙ append_assoc (escaped_byte y) (escaped ys) q))
+no_longer (x ∷ xs) (y ∷ ys) p q ax ay none e =
+    let s : (x ≡ y) × (escaped xs ++ p ≡ escaped ys ++ q) = one_byte_text x y (escaped xs ++ p) (escaped ys ++ q) (All-head (λ byte. byte < 256) x xs ax) (All-head (λ byte. byte < 256) y ys ay) (sym (append_assoc (escaped_byte x) (escaped xs) p) ∙ e ∙ append_assoc (escaped_byte y) (escaped ys) q) in
+    let r : length (escaped ys) ≤ length (escaped xs) = no_longer xs ys p q (All-tail (λ byte. byte < 256) x xs ax) (All-tail (λ byte. byte < 256) y ys ay) none s.1 in
+    let same : length (escaped_byte x) ≡ length (escaped_byte y) = ap (λ b. length (escaped_byte b)) s.0 in
+    omega (arith, length-append (escaped_byte x) (escaped xs), length-append (escaped_byte y) (escaped ys))
+
+none_before : (text : List ℕ) (m n : ℕ) → IsFirstBad text m → IsFirstBad text n → n ≤ m
+none_before text m n a b =
+    let e : escaped a.before.0 ++ drop m text ≡ escaped b.before.0 ++ drop n text = ap (λ front. front ++ drop m text) (sym a.before.2) ∙ take-append-drop m text ∙ sym (take-append-drop n text) ∙ ap (λ front. front ++ drop n text) b.before.2 in
+    let l : length (escaped b.before.0) ≤ length (escaped a.before.0) = no_longer a.before.0 b.before.0 (drop m text) (drop n text) a.before.1 b.before.1 a.none_at e in
+    let wm : m < length text = a.within in
+    let wn : n < length text = b.within in
+    omega (arith, ap length a.before.2, ap length b.before.2, length-take m text, length-take n text)
+
+-- a text has one first bad place at most
+pub one_place : (text : List ℕ) (m n : ℕ) → IsFirstBad text m → IsFirstBad text n → m ≡ n
+one_place text m n a b =
+    let x : n ≤ m = none_before text m n a b in
+    let y : m ≤ n = none_before text n m b a in
+    omega arith

@@ -1,5 +1,5 @@
 ghost use Rattle.std.specs.Prelude.{◌≡◌, ◌≢◌, ◌<◌, ℕ, List, [], ◌∷◌, ◌++◌, All, IfOk, IfErr, IfSome, IfNone, MatchResult};
-ghost use Rattle.xn_bytes.specs.Escapes.{hex_digit, escaped_byte, escaped, IsEscapeFault};
+ghost use Rattle.xn_bytes.specs.Escapes.{hex_digit, escaped_byte, escaped, IsFirstBad, IsEscapeFault};
 ghost use Rattle.xn_bytes.specs.declared.escaped_text.EscapeFault.TheVariants as faults;
 
 use crate::escapes::is_plain;
@@ -25,6 +25,11 @@ pub fn unescape(alloc: Global, text: &[u8]) -> Result<Vec<u8>, EscapeFault>
 {
     read_all(alloc, text)
 }
+
+/// A text has one first bad place at most, so `unescape` can name no other.
+pub fn one_bad_place()
+    ensures { (text : List ℕ) (m n : ℕ) → IsFirstBad text m → IsFirstBad text n → m ≡ n }
+{}
 
 fn read_all(alloc: Global, text: &[u8]) -> Result<Vec<u8>, EscapeFault>
     ensures found { IfOk result (λ bytes. text.now ≡ escaped bytes.items) }
