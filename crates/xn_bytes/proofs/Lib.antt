@@ -3,3 +3,4 @@ pub mod Registers
 pub mod TableLemmas
 pub mod TestLemmas
 pub mod SuperblockLemmas
+pub mod EscapeLemmas

@@ -42,7 +42,8 @@ fn escape_byte(byte: u8, out: &mut Vec<u8>) -> Result<(), AllocError>
     Ok(())
 }
 
-fn is_plain(byte: u8) -> bool
+/// Whether a byte stands for itself.
+pub(crate) fn is_plain(byte: u8) -> bool
     ensures { result ≡ stands_for_itself byte }
 {
     (0x21..=0x7e).contains(&byte) && byte != b'\\'

@@ -4,6 +4,7 @@
 
 mod bytes;
 mod checksum;
+mod escaped_text;
 mod escapes;
 mod hash;
 mod kind;
@@ -15,6 +16,7 @@ mod tables;
 
 pub use bytes::Bytes;
 pub use checksum::{Crc, checksum_of, has_checksum, put_checksum};
+pub use escaped_text::{EscapeFault, one_bad_place, unescape};
 pub use escapes::escape;
 pub use hash::{name_hash, parent_hash};
 pub use kind::Kind;

@@ -58,6 +58,37 @@ fn escapes(rt: HostRuntime) -> Result<(), Fail> {
 }
 
 #[test]
+fn escaped_texts(rt: HostRuntime) -> Result<(), Fail> {
+    let alloc = rt.alloc();
+    let bad: [(&[u8], u64); 9] = [
+        (b"\\61", 0),
+        (b"a\\zz", 1),
+        (b"\\5C", 0),
+        (b"ab\\", 2),
+        (b"\\0", 0),
+        (b"\\00\\0g", 3),
+        (b"a b", 1),
+        (b"~\x7f", 1),
+        (b"\\5c\\2", 3),
+    ];
+    for (text, at) in bad {
+        assert!(rt;
+            unescape(alloc, text).err() == Some(EscapeFault::Bad { at }),
+            "{text:?}"
+        );
+    }
+    for byte in 0u8..=255 {
+        let mut text = Vec::new(alloc);
+        escape(&[byte], &mut text).ok().ok_or("there is memory")?;
+        let bytes = unescape(alloc, &text).ok().ok_or("it is a text")?;
+        assert_eq!(rt; bytes.as_slice(), [byte].as_slice());
+    }
+    let bytes = unescape(alloc, b"a\\5c\\00~").ok().ok_or("it is a text")?;
+    assert_eq!(rt; bytes.as_slice(), b"a\\\0~".as_slice());
+    Ok(())
+}
+
+#[test]
 fn bytes_give_back_what_they_are(rt: HostRuntime) -> Result<(), Fail> {
     let bytes = Bytes::new(Vec::from_slice(rt.alloc(), b"ab")?);
     assert_eq!(rt; bytes.as_slice(), b"ab".as_slice());
