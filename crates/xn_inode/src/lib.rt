@@ -2,11 +2,13 @@
 #![tactic(auto)]
 
 mod accepted;
+mod extents;
 mod fields;
 mod inode_core;
 mod places;
 mod superblock;
 
+pub use extents::{ExtentFault, Extents};
 pub use inode_core::{Core, CoreFault, EXTENTS_FORMAT, LOCAL_FORMAT};
 pub use superblock::{GeomFault, Super};
 

@@ -2,6 +2,7 @@ ghost use Rattle.std.specs.Prelude.{◌+◌, ◌≤◌};
 
 use super::*;
 use byteorder::{ByteOrder, LittleEndian};
+use std::alloc::Global;
 use std::process::Abort;
 use std::test::Fail;
 use xn_bytes::{Kind, checksum_of};
@@ -296,4 +297,56 @@ fn bytes_not_a_core(rt: HostRuntime) {
     assert_eq!(rt; broken_rule(front(&inode, 175)), 10, "a short core");
     inode[500] = 1;
     assert_eq!(rt; broken_rule(&inode), 10, "checksum");
+}
+
+/// File block 8,388,608 at block 100, one block, as the two words of a record.
+const EXTENT: [u64; 2] = [0x1_0000_0000, 0xc80_0001];
+
+/// The bytes of two records.
+fn two_records(words: [u64; 4]) -> [u8; 32] {
+    let mut bytes = [0; 32];
+    bytes[..8].copy_from_slice(&words[0].to_be_bytes());
+    bytes[8..16].copy_from_slice(&words[1].to_be_bytes());
+    bytes[16..24].copy_from_slice(&words[2].to_be_bytes());
+    bytes[24..].copy_from_slice(&words[3].to_be_bytes());
+    bytes
+}
+
+/// The record that is named as bad.
+fn bad_record(alloc: Global, bytes: &[u8], count: u64) -> Option<u64> {
+    match Extents::read(alloc, bytes, count) {
+        Err(ExtentFault::Bad { at }) => Some(at),
+        _ => None,
+    }
+}
+
+#[test]
+fn extents(rt: HostRuntime) -> Result<(), Fail> {
+    let [high, low] = EXTENT;
+    let bytes = two_records([high, low, 0x1_0000_0200, low]);
+    let one = Extents::read(rt.alloc(), &bytes[..16], 1)
+        .ok()
+        .ok_or("one record")?;
+    assert!(rt; one.count() == 1);
+    assert_eq!(rt; one.run(0), (8_388_608, 100, 1));
+    assert_eq!(rt; one.block_at(8_388_608), Some(100));
+    assert_eq!(rt; one.block_at(8_388_609), None);
+    assert_eq!(rt; one.block_at(8_388_607), None);
+    let two = Extents::read(rt.alloc(), &bytes, 2)
+        .ok()
+        .ok_or("two records in order")?;
+    assert_eq!(rt; two.count(), 2);
+    assert_eq!(rt; two.block_at(8_388_609), Some(100));
+    assert_eq!(rt; bad_record(rt.alloc(), &bytes[..16], 2), Some(1), "cut off");
+    let flagged = 0x8000_0000_0000_0000 + high;
+    let cases = [
+        ("flagged", [flagged, low, high, low], 0),
+        ("empty", [high, 0xc80_0000, high, low], 0),
+        ("the same twice", [high, low, high, low], 1),
+    ];
+    for (message, words, at) in cases {
+        let bytes = two_records(words);
+        assert_eq!(rt; bad_record(rt.alloc(), &bytes, 2), Some(at), "{message}");
+    }
+    Ok(())
 }
