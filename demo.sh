@@ -12,6 +12,8 @@ build() {
 }
 
 make_demo=$(build xn_demo)
+# `rt run` has run it in its own folder too.
+rm -f "$top/crates/xn_demo/demo.img" "$top/crates/xn_demo/demo.manifest"
 xfsns=$(build xfsns)
 cd "$top/demo"
 "$make_demo"
