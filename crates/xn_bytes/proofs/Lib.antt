@@ -4,3 +4,5 @@ pub mod TableLemmas
 pub mod TestLemmas
 pub mod SuperblockLemmas
 pub mod EscapeLemmas
+pub mod NameOrder
+pub mod Overlays

@@ -9,6 +9,14 @@ pub mod Inode
 pub mod Entries
 pub mod Extents
 pub mod ShortDirectory
+pub mod DataBlock
+pub mod Blocks
 pub mod Directory
+pub mod HashedTree
+pub mod DirectoryForms
+pub mod DirectoryRules
 pub mod Causes
+pub mod Errors
+pub mod Words
+pub mod Replies
 pub mod Outcome

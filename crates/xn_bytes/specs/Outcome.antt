@@ -1,33 +1,18 @@
 -- What the program answers: one relation from its words and the image to its status and what it tells.
-use Rattle.std.specs.Prelude.{◌≡◌, ◌≢◌, ◌⊎◌, ℕ, ◌+◌, ◌/◌, ◌^◌, ◌<◌, ◌≤◌, List, [], ◌∷◌, ◌++◌, length, take, codes, decimal, flat_map, slice_index, Option, Some, None, IfSome, MatchOption}
+use Rattle.std.specs.Prelude.{◌≡◌, ◌≢◌, ◌⊎◌, ℕ, ◌+◌, ◌/◌, ◌≤◌, List, [], ◌++◌, length, take, Option, Some, None, IfSome, MatchOption}
 use Rattle.xn_bytes.specs.declared.kind.Kind.TheVariants.{Dir}
 use Rattle.xn_bytes.specs.declared.status.Status.{Status}
 use Rattle.xn_bytes.specs.declared.status.Status.TheVariants.{Done, Usage, Image, ReadFault, SayFault, Memory, Unbuilt}
 use Rattle.xn_bytes.specs.Numbers.{number_at, sector_of}
 use Rattle.xn_bytes.specs.Causes.{Rose}
-use Rattle.xn_bytes.specs.Kinds.{kind_of_mode, kind_word}
-use Rattle.xn_bytes.specs.Escapes.{escaped}
+use Rattle.xn_bytes.specs.Kinds.{kind_of_mode}
 use Rattle.xn_bytes.specs.Entries.{Entry}
 use Rattle.xn_bytes.specs.Superblock.{Geometry, geometry_of, IsSuperblock}
 use Rattle.xn_bytes.specs.Inode.{inode_of, local_format, HasCore, HasBothForks}
 use Rattle.xn_bytes.specs.ShortDirectory.{ShortForm, ShortHolds}
 use Rattle.xn_bytes.specs.Directory.{IsLive, HasShortSize, short_bytes_of, HasNames, IsListing}
-
--- ---- the words
-
--- a word of the command line: some bytes, the first of them no `-`
-pub record IsWord (word : List ℕ) : Type 0 where
-  pub some : 0 < length word
-  pub no_dash : slice_index word 0 ≢ 45
-
--- `list IMAGE MANIFEST INO`, INO a decimal number below 2^64 without a leading zero
-pub record AsksList (words : List (List ℕ)) (ino : ℕ) : Type 0 where
-  pub image : List ℕ
-  pub manifest : List ℕ
-  pub form : words ≡ codes "list" ∷ image ∷ manifest ∷ decimal ino ∷ []
-  pub image_word : IsWord image
-  pub manifest_word : IsWord manifest
-  pub small : ino < 2 ^ 64
+use Rattle.xn_bytes.specs.Words.{AsksList}
+use Rattle.xn_bytes.specs.Replies.{usage_line, unbuilt_line, image_line, list_text}
 
 -- ---- the image
 
@@ -55,37 +40,6 @@ pub record IsPlain (g : Geometry) (ino : ℕ) (inode : List ℕ) (form : ShortFo
   pub size : HasShortSize inode
   pub spelled : ShortHolds (short_bytes_of inode) form
   pub names : HasNames form.entries
-
--- ---- the told lines
-
--- between the words of a line
-abbrev pub space : ℕ
-space = 32
-
--- at the end of a line
-abbrev pub newline : ℕ
-newline = 10
-
--- told to words that are none of the forms
-abbrev pub usage_line : List ℕ
-usage_line = codes "usage" ++ newline ∷ []
-
--- told of an inode that this version doesn't list
-abbrev pub unbuilt_line : List ℕ
-unbuilt_line = codes "unbuilt" ++ newline ∷ []
-
--- the rule that an image breaks, the inode that breaks it, and the block
-abbrev pub image_line : ℕ → ℕ → ℕ → List ℕ
-image_line rule inode block =
-    codes "image rule " ++ decimal rule ++ codes " inode " ++ decimal inode ++ codes " block " ++ decimal block ++ newline ∷ []
-
--- an entry of a list: `INO KIND NAME`, the name escaped
-abbrev pub entry_line : Entry → List ℕ
-entry_line entry = decimal entry.ino ++ space ∷ [] ++ kind_word entry.kind ++ space ∷ [] ++ escaped entry.name ++ newline ∷ []
-
--- `ok COUNT`, and a line for each entry
-abbrev pub list_text : List Entry → List ℕ
-list_text entries = codes "ok " ++ decimal (length entries) ++ newline ∷ [] ++ flat_map entry_line entries
 
 -- ---- the answers
 

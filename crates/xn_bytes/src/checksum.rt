@@ -123,6 +123,7 @@ pub fn put_checksum(bytes: &mut [u8], at: usize)
     requires { at + 4 ≤ length bytes.old }
     ensures value { bytes.new ≡ overlaid bytes.old at (little_bytes 4 (checksum_with bytes.old at)) }
     ensures right { HasChecksum bytes.new at }
+    ensures length { length bytes.new ≡ length bytes.old }
 {
     let checksum = checksum_of(bytes, at);
     put_little_u32(bytes, at, checksum);

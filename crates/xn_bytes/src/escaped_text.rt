@@ -18,6 +18,7 @@ pub enum EscapeFault {
 pub fn unescape(alloc: Global, text: &[u8]) -> Result<Vec<u8>, EscapeFault>
     // What is read has this text.
     ensures found { IfOk result (λ bytes. text.now ≡ escaped bytes.items) }
+    ensures bytes { IfOk result (λ bytes. All (λ byte. byte < 256) bytes.items) }
     // The text of bytes is read as these, unless memory runs out.
     ensures only { (bytes : List ℕ) → All (λ byte. byte < 256) bytes → text.now ≡ escaped bytes → MatchResult result (λ v. v.items ≡ bytes) (λ fault. fault ≡ faults.Memory) }
     // Which place it is.

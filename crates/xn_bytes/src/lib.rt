@@ -4,6 +4,7 @@
 
 mod bytes;
 mod checksum;
+mod errno;
 mod escaped_text;
 mod escapes;
 mod hash;
@@ -16,6 +17,7 @@ mod tables;
 
 pub use bytes::Bytes;
 pub use checksum::{Crc, checksum_of, has_checksum, put_checksum};
+pub use errno::Errno;
 pub use escaped_text::{EscapeFault, one_bad_place, unescape};
 pub use escapes::escape;
 pub use hash::{name_hash, parent_hash};

@@ -54,7 +54,8 @@ pub fn little_u32_at(bytes: &[u8], at: usize) -> u32
 /// Puts two bytes, the highest first, at a place.
 pub fn put_u16(bytes: &mut [u8], at: usize, number: u16)
     requires { at + 2 ≤ length bytes.old }
-    ensures { bytes.new ≡ overlaid bytes.old at (big_bytes 2 number) }
+    ensures value { bytes.new ≡ overlaid bytes.old at (big_bytes 2 number) }
+    ensures length { length bytes.new ≡ length bytes.old }
 {
     BigEndian::write_u16(&mut bytes[at..], number);
 }
@@ -62,7 +63,8 @@ pub fn put_u16(bytes: &mut [u8], at: usize, number: u16)
 /// Puts four bytes, the highest first, at a place.
 pub fn put_u32(bytes: &mut [u8], at: usize, number: u32)
     requires { at + 4 ≤ length bytes.old }
-    ensures { bytes.new ≡ overlaid bytes.old at (big_bytes 4 number) }
+    ensures value { bytes.new ≡ overlaid bytes.old at (big_bytes 4 number) }
+    ensures length { length bytes.new ≡ length bytes.old }
 {
     BigEndian::write_u32(&mut bytes[at..], number);
 }
@@ -70,7 +72,8 @@ pub fn put_u32(bytes: &mut [u8], at: usize, number: u32)
 /// Puts eight bytes, the highest first, at a place.
 pub fn put_u64(bytes: &mut [u8], at: usize, number: u64)
     requires { at + 8 ≤ length bytes.old }
-    ensures { bytes.new ≡ overlaid bytes.old at (big_bytes 8 number) }
+    ensures value { bytes.new ≡ overlaid bytes.old at (big_bytes 8 number) }
+    ensures length { length bytes.new ≡ length bytes.old }
 {
     BigEndian::write_u64(&mut bytes[at..], number);
 }
@@ -78,7 +81,8 @@ pub fn put_u64(bytes: &mut [u8], at: usize, number: u64)
 /// Puts four bytes, the lowest first, at a place.
 pub fn put_little_u32(bytes: &mut [u8], at: usize, number: u32)
     requires { at + 4 ≤ length bytes.old }
-    ensures { bytes.new ≡ overlaid bytes.old at (little_bytes 4 number) }
+    ensures value { bytes.new ≡ overlaid bytes.old at (little_bytes 4 number) }
+    ensures length { length bytes.new ≡ length bytes.old }
 {
     LittleEndian::write_u32(&mut bytes[at..], number);
 }

@@ -1,2 +1,3 @@
+pub mod HomeRuns
 pub mod Runs
 pub mod Records

@@ -1,5 +1,5 @@
 -- The fields that the crate keeps of a superblock, seen as its geometry.
-use Rattle.std.specs.Prelude.{◌≢◌, ◌+◌, ◌-◌, ◌*◌, ◌^◌, ◌<◌, ◌≤◌}
+use Rattle.std.specs.Prelude.{◌≢◌, ◌⊎◌, ℕ, ◌+◌, ◌-◌, ◌*◌, ◌^◌, ◌<◌, ◌≤◌}
 use Rattle.xn_bytes.specs.Superblock.{Geometry, group_of, block_in_group, linear_block}
 use Rattle.xn_inode.specs.declared.fields.Fields.{Fields}
 
@@ -39,6 +39,18 @@ pub record HasLogPlace (g : Geometry) : Type 0 where
   pub group : group_of g g.log_start < g.ag_count
   pub one_group : block_in_group g g.log_start + g.log_blocks ≤ g.ag_blocks
   pub in_data : linear_block g g.log_start + g.log_blocks ≤ g.data_blocks
+
+-- a run of blocks of one group, the group's first block not among them, and in range
+pub record IsRunOfGroup (g : Geometry) (block count : ℕ) : Type 0 where
+  pub group : group_of g block < g.ag_count
+  pub not_first : block_in_group g block ≢ 0
+  pub within : block_in_group g block + count ≤ g.ag_blocks
+  pub in_data : linear_block g block + count ≤ g.data_blocks
+
+-- a run of blocks that ends in front of the log, or begins behind it
+abbrev pub IsRunOutsideLog : Geometry → ℕ → ℕ → Type 0
+IsRunOutsideLog g block count =
+    (linear_block g block + count ≤ linear_block g g.log_start) ⊎ (linear_block g g.log_start + g.log_blocks ≤ linear_block g block)
 
 -- the fields back
 abbrev pub fields_from : Geometry → Fields

@@ -1,7 +1,7 @@
 //! Lists of extents: which blocks of the image hold the blocks of a file.
 
-ghost use Rattle.std.specs.Prelude.{◌≡◌, ◌+◌, ◌*◌, ◌≤◌, ◌<◌, ◌↔◌, IsTrue, MatchResult, Option, Some, drop, length, slice_get, nat_le};
-ghost use Rattle.xn_bytes.specs.Extents.{Run, AreRecords, IsFirstBad, IsRecord, run_in, runs_in, end_of_run, mapped};
+ghost use Rattle.std.specs.Prelude.{◌≡◌, ◌+◌, ◌*◌, ◌^◌, ◌≤◌, ◌<◌, ◌↔◌, IsTrue, MatchResult, Option, Some, drop, length, slice_get, nat_le};
+ghost use Rattle.xn_bytes.specs.Extents.{Run, AreRecords, AreRuns, IsFirstBad, IsRecord, run_in, runs_in, end_of_run, mapped};
 ghost use Rattle.xn_inode.specs.declared.extents.ExtentFault.TheVariants.{Memory};
 ghost use Rattle.xn_inode.specs.Lists.{NotRead, mapped_by};
 
@@ -140,7 +140,8 @@ impl Extents {
 
     /// How many records there are.
     pub fn count(&self) -> u64
-        ensures { result ≡ length self.now }
+        ensures count { result ≡ length self.now }
+        ensures lawful { AreRuns 0 self.now }
     {
         self.runs.len() as u64
     }
@@ -148,7 +149,8 @@ impl Extents {
     /// File block, block and count of a record.
     pub fn run(&self, at: u64) -> (u64, u64, u64)
         requires { at < length self.now }
-        ensures { slice_get self.now at ≡ Some (record { file_block = result.0; block = result.1; count = result.2 }) }
+        ensures run { slice_get self.now at ≡ Some (record { file_block = result.0; block = result.1; count = result.2 }) }
+        ensures fits { (result.0 < 2 ^ 54) × (result.1 < 2 ^ 52) × (result.2 < 2 ^ 21) }
     {
         let run = self.runs[at as usize];
         (run.file_block, run.block, run.count)

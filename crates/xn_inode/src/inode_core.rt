@@ -1,6 +1,6 @@
 ghost use Rattle.std.specs.Prelude.{◌≡◌, ◌+◌, ◌*◌, ◌≤◌, ◌<◌, ◌↔◌, IsTrue, MatchResult, MatchOption, length, slice_range};
 ghost use Rattle.xn_bytes.specs.Superblock.{OrElse};
-ghost use Rattle.xn_bytes.specs.Inode.{HasCore, HasForks, CoreHolds, data_fork_of, IsListFormat};
+ghost use Rattle.xn_bytes.specs.Inode.{HasCore, HasForks, CoreHolds, data_fork_end, data_fork_of, attr_fork_of, IsListFormat};
 ghost use Rattle.xn_bytes.specs.Kinds.{kind_of_mode};
 ghost use Rattle.xn_bytes.specs.Numbers.{number_at};
 
@@ -74,12 +74,29 @@ impl Core {
         requires forks { HasForks inode.now }
         ensures { result.now ≡ data_fork_of inode.now }
     {
-        let end = if self.fork_offset == 0 {
+        &inode[CORE_BYTES..self.data_fork_end(inode)]
+    }
+
+    /// The bytes of the attribute fork, none where it isn't there.
+    pub fn attr_fork<'a>(&self, inode: &'a [u8]) -> &'a [u8]
+        requires core { CoreHolds inode.now self.now }
+        requires forks { HasForks inode.now }
+        ensures { result.now ≡ attr_fork_of inode.now }
+    {
+        &inode[self.data_fork_end(inode)..]
+    }
+
+    fn data_fork_end(&self, inode: &[u8]) -> usize
+        requires core { CoreHolds inode.now self.now }
+        requires forks { HasForks inode.now }
+        ensures value { result ≡ data_fork_end inode.now }
+        ensures within { (176 ≤ result) × (result ≤ length inode.now) }
+    {
+        if self.fork_offset == 0 {
             inode.len()
         } else {
             CORE_BYTES + 8 * usize::from(self.fork_offset)
-        };
-        &inode[CORE_BYTES..end]
+        }
     }
 
     pub fn kind(&self) -> Kind

@@ -1,5 +1,6 @@
-ghost use Rattle.std.specs.Prelude.{◌≡◌, ◌+◌, ◌*◌, ◌≤◌, ◌↔◌, IsTrue, MatchResult, MatchOption, length};
+ghost use Rattle.std.specs.Prelude.{◌≡◌, ◌+◌, ◌*◌, ◌^◌, ◌<◌, ◌≤◌, ◌↔◌, ℕ, IsTrue, MatchResult, MatchOption, length};
 ghost use Rattle.xn_bytes.specs.Superblock.{IsSuperblock, FirstFieldBroken, geometry_of, sector_of_block, sector_of_inode, IsBlock, IsInode, IsOwnInode};
+ghost use Rattle.xn_bytes.specs.Blocks.{IsHome};
 
 use crate::accepted;
 use crate::fields::Fields;
@@ -138,6 +139,23 @@ impl Super {
         ensures { IsTrue result ↔ IsOwnInode self.now number }
     {
         number != 0 && number != u64::MAX && self.fields.own_inodes.contains(&number)
+    }
+
+    /// Whether a fork may map a block: in range, outside the log, and not the first block of its group.
+    pub fn is_home(&self, block: u64) -> bool
+        ensures { IsTrue result ↔ IsHome self.now block }
+    {
+        self.fields.is_home(block)
+    }
+
+    /// Whether a fork may map each of so many blocks from one on.
+    pub fn is_home_run(&self, block: u64, count: u64) -> bool
+        requires { block + count < 2 ^ 64 }
+        ensures { IsTrue result ↔ ((k : ℕ) → k < count → IsHome self.now (block + k)) }
+    {
+        count == 0
+            || (self.fields.is_run_of_group(block, count)
+                && self.fields.is_run_outside_log(block, count))
     }
 
     /// The first of a block's 8 sectors.

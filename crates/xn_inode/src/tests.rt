@@ -1,11 +1,10 @@
 ghost use Rattle.std.specs.Prelude.{◌+◌, ◌≤◌};
 
 use super::*;
-use byteorder::{ByteOrder, LittleEndian};
 use std::alloc::Global;
 use std::process::Abort;
 use std::test::Fail;
-use xn_bytes::{Kind, checksum_of};
+use xn_bytes::{Kind, put_checksum};
 
 /// The sectors of an image of 576 blocks.
 const SECTORS: u64 = 4608;
@@ -70,19 +69,12 @@ fn put(rt: &impl Abort, bytes: &mut [u8; 512], numbers: &[Number], checksum_plac
     for (place, width, value) in numbers {
         put_number(rt, bytes, *place, *width, *value);
     }
-    seal(bytes, checksum_place);
+    put_checksum(bytes, checksum_place);
 }
 
 fn put_number(rt: &impl Abort, bytes: &mut [u8; 512], place: usize, width: usize, value: u64) {
     assert!(rt; width <= 8 && place <= 504);
     bytes[place..place + width].copy_from_slice(&value.to_be_bytes()[8 - width..]);
-}
-
-fn seal(bytes: &mut [u8; 512], place: usize)
-    requires { place + 4 ≤ 512 }
-{
-    let checksum = checksum_of(&bytes[..], place);
-    LittleEndian::write_u32(&mut bytes[place..place + 4], checksum);
 }
 
 /// The accepted superblock with these numbers in place of its own.

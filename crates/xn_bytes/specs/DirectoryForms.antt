@@ -1,0 +1,234 @@
+-- What a directory of an image holds: one relation for its four forms, short, block, leaf and node. Entries are read from
+-- the short form or from the data blocks alone; the hashes by which they are found stand beside them.
+use Rattle.std.specs.Prelude.{◌≡◌, ◌≢◌, ◌⊎◌, ℕ, ◌+◌, ◌*◌, ◌/◌, ◌<◌, Bool, true, false, not, ◌==◌, if◌then◌else◌, List, [], ◌∷◌, ◌++◌, length, map, filter, flat_map, count_by, All, Any, IsPermutation, Some, None, IsSome}
+use Rattle.std.specs.List.{AllAdjacentBelow}
+use Rattle.std.specs.List.Sorted.{IsNonDecreasingBy}
+use Rattle.xn_bytes.specs.declared.kind.Kind.TheVariants.{Dir}
+use Rattle.xn_bytes.specs.Numbers.{number_at}
+use Rattle.xn_bytes.specs.Hashes.{name_hash_of}
+use Rattle.xn_bytes.specs.Superblock.{Geometry, sector_of_block}
+use Rattle.xn_bytes.specs.Blocks.{block_of, IsHome}
+use Rattle.xn_bytes.specs.Inode.{inode_of, data_fork_of, attr_fork_of, local_format, extents_format, has_large_counts}
+use Rattle.xn_bytes.specs.Extents.{Run, AreRecords, runs_in, mapped}
+use Rattle.xn_bytes.specs.Entries.{Entry}
+use Rattle.xn_bytes.specs.ShortDirectory.{ShortForm, ShortHolds}
+use Rattle.xn_bytes.specs.DataBlock.{DataForm, DataHolds, LeafEntry, entries_among, gaps_among, greatest}
+use Rattle.xn_bytes.specs.Directory.{HasShortSize, short_bytes_of}
+use Rattle.xn_bytes.specs.HashedTree.{TreeReader, LeafHolds, TreeHolds, single_leaf_magic, leaf_file_block, HasBests, HasFreeIndex}
+
+-- ---- the blocks of a fork
+
+-- how many extents the data fork and the attribute fork have, by the core
+abbrev pub data_extents_of : List ℕ → ℕ
+data_extents_of inode = if has_large_counts inode then number_at 8 24 inode else number_at 4 76 inode
+
+abbrev pub attr_extents_of : List ℕ → ℕ
+attr_extents_of inode = if has_large_counts inode then number_at 4 76 inode else number_at 2 80 inode
+
+-- the runs of the data fork
+abbrev pub data_runs_of : List ℕ → List Run
+data_runs_of inode = runs_in (data_extents_of inode) (data_fork_of inode)
+
+-- each block of each run is in range, outside the log, and not the first of its group
+abbrev pub AreHome : Geometry → List Run → Type 0
+AreHome g runs = All (λ run. (k : ℕ) → k < run.count → IsHome g (run.block + k)) runs
+
+-- the bytes of a fork are a list of so many extents, of blocks that a fork may map
+pub record IsExtentList (g : Geometry) (count : ℕ) (fork : List ℕ) : Type 0 where
+  pub records : AreRecords count 0 fork
+  pub home : AreHome g (runs_in count fork)
+
+-- rule 13 of a directory: the lists of extents of its two forks, where they are such
+pub record HasExtentLists (g : Geometry) (inode : List ℕ) : Type 0 where
+  pub of_data : number_at 1 5 inode ≡ extents_format → IsExtentList g (data_extents_of inode) (data_fork_of inode)
+  pub of_attributes : number_at 1 82 inode ≢ 0 → number_at 1 83 inode ≡ extents_format → IsExtentList g (attr_extents_of inode) (attr_fork_of inode)
+
+-- ---- forms
+
+-- a file block from 0 on, below which data blocks are numbered
+abbrev pub IsDataNumber : ℕ → Type 0
+IsDataNumber file_block = file_block < leaf_file_block
+
+-- block form: only file block 0 is mapped
+pub record IsBlockForm (runs : List Run) (block : ℕ) : Type 0 where
+  pub first : mapped runs 0 ≡ Some block
+  pub alone : (file_block : ℕ) → file_block ≢ 0 → mapped runs file_block ≡ None
+
+-- leaf form: file block 8,388,608 is the greatest that is mapped
+pub record IsLeafForm (runs : List Run) : Type 0 where
+  pub leaf : IsSome (mapped runs leaf_file_block)
+  pub last : (file_block : ℕ) → leaf_file_block < file_block → mapped runs file_block ≡ None
+
+-- the greatest mapped data block
+pub record IsGreatestData (runs : List Run) (number : ℕ) : Type 0 where
+  pub is_data : IsDataNumber number
+  pub is_mapped : IsSome (mapped runs number)
+  pub last : (file_block : ℕ) → number < file_block → IsDataNumber file_block → mapped runs file_block ≡ None
+
+-- rule 15 of a directory in blocks: its size reaches to the end of the greatest mapped data block
+abbrev pub HasBlocksSize : List ℕ → Type 0
+HasBlocksSize inode = (number : ℕ) × IsGreatestData (data_runs_of inode) number × (number_at 8 56 inode ≡ 4096 * (number + 1))
+
+-- ---- data blocks
+
+-- A data block of the directory, in the place that it names, with the filesystem's uuid and its owner.
+pub record IsDataBlockOf (g : Geometry) (dir : ℕ) (is_block_form : Bool) (block : ℕ) (bytes : List ℕ) (form : DataForm) : Type 0 where
+  pub holds : DataHolds bytes form
+  pub magic : form.is_block_form ≡ is_block_form
+  pub place : form.place ≡ sector_of_block g block
+  pub uuid : form.uuid ≡ g.meta_uuid
+  pub owner : form.owner ≡ dir
+
+-- `.` stands at 64 and `..` at 80, both of kind directory, in front of the other entries. The inode of the second is
+-- the dotdot.
+pub record HasDots (all others : List Entry) (dotdot : ℕ) : Type 0 where
+  pub dot : Entry
+  pub parent : Entry
+  pub first : all ≡ dot ∷ parent ∷ others
+  pub dot_name : dot.name ≡ 46 ∷ []
+  pub parent_name : parent.name ≡ 46 ∷ 46 ∷ []
+  pub dot_kind : dot.kind ≡ Dir
+  pub parent_kind : parent.kind ≡ Dir
+  pub dot_place : dot.position ≡ 64
+  pub parent_place : parent.position ≡ 80
+  pub inode : dotdot ≡ parent.ino
+
+-- ---- the index
+
+-- the leaf entry of an entry
+abbrev pub leaf_of : Entry → LeafEntry
+leaf_of entry = record { hash = name_hash_of entry.name; address = entry.position / 8 }
+
+abbrev pub is_stale : LeafEntry → Bool
+is_stale leaf = leaf.address == 0
+
+-- leaf entries in the order of their hashes, stale ones too: none has a greater hash than one behind it
+abbrev pub AreSorted : List LeafEntry → Type 0
+AreSorted leaves = IsNonDecreasingBy (λ leaf. leaf.hash) leaves
+
+-- The leaf entries that are not stale are those of all entries, dot and dotdot among them, each as often.
+abbrev pub IsIndexOf : List LeafEntry → List Entry → Type 0
+IsIndexOf leaves entries = IsPermutation (map leaf_of entries) (filter (λ leaf. not (is_stale leaf)) leaves)
+
+-- rule 18 of block form: the leaf entries are sorted, and the count of stale ones is right
+pub record HasTail (form : DataForm) : Type 0 where
+  pub sorted : AreSorted form.leaves
+  pub stale : form.stale ≡ count_by is_stale form.leaves
+
+-- ---- short form
+
+pub record HoldsShort (inode : List ℕ) (entries : List Entry) (dotdot : ℕ) : Type 0 where
+  pub is_local : number_at 1 5 inode ≡ local_format
+  pub size : HasShortSize inode
+  pub form : ShortForm
+  pub holds : ShortHolds (short_bytes_of inode) form
+  pub entries_are : entries ≡ form.entries
+  pub dotdot_is : dotdot ≡ form.parent
+
+-- ---- block form
+
+-- what the first block of a directory in block form holds, by its bytes
+pub record HoldsFirst (g : Geometry) (dir block : ℕ) (bytes : List ℕ) (form : DataForm) (entries : List Entry) (dotdot : ℕ) : Type 0 where
+  pub data_block : IsDataBlockOf g dir true block bytes form
+  pub dots : HasDots (entries_among form.regions) entries dotdot
+
+pub record HoldsBlock (g : Geometry) (dir : ℕ) (inode : List ℕ) (blocks : ℕ → List ℕ) (entries : List Entry) (dotdot : ℕ) : Type 0 where
+  pub is_extents : number_at 1 5 inode ≡ extents_format
+  pub block : ℕ
+  pub alone : IsBlockForm (data_runs_of inode) block
+  pub size : HasBlocksSize inode
+  pub form : DataForm
+  pub first : HoldsFirst g dir block (blocks block) form entries dotdot
+  pub tail : HasTail form
+  pub index : IsIndexOf form.leaves (entries_among form.regions)
+
+-- ---- leaf and node form
+
+-- a data block by its number in the file, and what it holds
+pub record Placed : Type 0 where
+  pub file_block : ℕ
+  pub form : DataForm
+
+abbrev pub IsPlaced : Geometry → ℕ → List Run → (ℕ → List ℕ) → Placed → Type 0
+IsPlaced g dir runs blocks placed = (block : ℕ) × (mapped runs placed.file_block ≡ Some block) × IsDataBlockOf g dir false block (blocks block) placed.form
+
+-- all the data blocks that are mapped, in rising order
+pub record AreData (g : Geometry) (dir : ℕ) (runs : List Run) (blocks : ℕ → List ℕ) (data_blocks : List Placed) : Type 0 where
+  pub each : All (IsPlaced g dir runs blocks) data_blocks
+  pub rising : AllAdjacentBelow (λ a b. a.file_block < b.file_block) data_blocks (length data_blocks)
+  pub complete : (file_block : ℕ) → IsDataNumber file_block → IsSome (mapped runs file_block) → Any (λ placed. placed.file_block ≡ file_block) data_blocks
+
+-- an entry of a data block, by its position in the directory's data
+abbrev pub placed_in : ℕ → Entry → Entry
+placed_in file_block entry = record entry { position = 4096 * file_block + entry.position }
+
+-- the entries of a data block, by their positions in the directory's data
+abbrev pub entries_placed : Placed → List Entry
+entries_placed placed = map (placed_in placed.file_block) (entries_among placed.form.regions)
+
+-- the best of a data block: the length of its greatest free region
+abbrev pub best_of : Placed → ℕ
+best_of placed = greatest (gaps_among placed.form.regions)
+
+-- The leaf entries of leaf form stand in one leaf, with the bests of all data blocks behind them.
+pub record HasSingleLeaf (reader : TreeReader) (data_blocks : List Placed) (leaves : List LeafEntry) : Type 0 where
+  pub leaf_form : IsLeafForm reader.runs
+  pub block : ℕ
+  pub at : mapped reader.runs leaf_file_block ≡ Some block
+  pub leaf : LeafHolds reader.geometry reader.owner block single_leaf_magic (reader.blocks block) leaves
+  pub greatest_data : ℕ
+  pub is_greatest : IsGreatestData reader.runs greatest_data
+  pub bests : HasBests (map (λ placed. (placed.file_block, best_of placed)) data_blocks) (greatest_data + 1) (reader.blocks block)
+
+-- Those of node form stand in the leaves of a tree, and the bests in free-index blocks.
+pub record HasTree (reader : TreeReader) (data_blocks : List Placed) (leaves : List LeafEntry) : Type 0 where
+  pub no_leaf_form : ¬ IsLeafForm reader.runs
+  pub level : ℕ
+  pub few_levels : level < 5
+  pub tree : TreeHolds level reader leaf_file_block leaves
+  pub bests : All (λ placed. HasFreeIndex reader placed.file_block (best_of placed)) data_blocks
+
+pub record HoldsBlocks (g : Geometry) (dir : ℕ) (inode : List ℕ) (blocks : ℕ → List ℕ) (entries : List Entry) (dotdot : ℕ) : Type 0 where
+  pub is_extents : number_at 1 5 inode ≡ extents_format
+  pub not_alone : (block : ℕ) → ¬ IsBlockForm (data_runs_of inode) block
+  pub size : HasBlocksSize inode
+  pub first : DataForm
+  pub others : List Placed
+  pub data_blocks : AreData g dir (data_runs_of inode) blocks (record { file_block = 0; form = first } ∷ others)
+  pub front : List Entry
+  pub dots : HasDots (entries_among first.regions) front dotdot
+  pub entries_are : entries ≡ front ++ flat_map entries_placed others
+  pub leaves : List LeafEntry
+  pub sorted : AreSorted leaves
+  pub index : IsIndexOf leaves (entries_among first.regions ++ flat_map entries_placed others)
+  pub tree :
+      HasSingleLeaf (record { geometry = g; owner = dir; runs = data_runs_of inode; blocks = blocks }) (record { file_block = 0; form = first } ∷ others) leaves
+      ⊎ HasTree (record { geometry = g; owner = dir; runs = data_runs_of inode; blocks = blocks }) (record { file_block = 0; form = first } ∷ others) leaves
+
+-- ---- the relation
+
+-- The directory with these inode bytes and blocks holds the entries, without dot and dotdot, in rising position, and this
+-- dotdot.
+abbrev pub Holds : Geometry → ℕ → List ℕ → (ℕ → List ℕ) → List Entry → ℕ → Type 0
+Holds g dir inode blocks entries dotdot =
+    HoldsShort inode entries dotdot
+    ⊎ (HoldsBlock g dir inode blocks entries dotdot ⊎ HoldsBlocks g dir inode blocks entries dotdot)
+
+-- a directory of an image holds entries and a dotdot
+abbrev pub DirHolds : Geometry → List ℕ → ℕ → List Entry → ℕ → Type 0
+DirHolds g image dir entries dotdot = Holds g dir (inode_of g image dir) (block_of g image) entries dotdot
+
+-- dot and dotdot in front of the first data block of a directory in blocks
+pub record ReadsDots (g : Geometry) (dir : ℕ) (inode : List ℕ) (blocks : ℕ → List ℕ) (dotdot : ℕ) : Type 0 where
+  pub is_extents : number_at 1 5 inode ≡ extents_format
+  pub block : ℕ
+  pub first : mapped (data_runs_of inode) 0 ≡ Some block
+  pub is_block_form : Bool
+  pub form : DataForm
+  pub data_block : IsDataBlockOf g dir is_block_form block (blocks block) form
+  pub others : List Entry
+  pub dots : HasDots (entries_among form.regions) others dotdot
+
+-- the dotdot of the directory with these inode bytes and blocks, by the short form or the first data block alone
+abbrev pub HasParent : Geometry → ℕ → List ℕ → (ℕ → List ℕ) → ℕ → Type 0
+HasParent g dir inode blocks dotdot = ((entries : List Entry) × HoldsShort inode entries dotdot) ⊎ ReadsDots g dir inode blocks dotdot

@@ -1,0 +1,69 @@
+-- What the program tells: the replies with their texts, and the lines that are no replies.
+use Rattle.std.specs.Prelude.{ℕ, List, [], ◌∷◌, ◌++◌, length, codes, decimal, flat_map}
+use Rattle.xn_bytes.specs.declared.kind.Kind.{Kind}
+use Rattle.xn_bytes.specs.declared.errno.Errno.{Errno}
+use Rattle.xn_bytes.specs.Kinds.{kind_word}
+use Rattle.xn_bytes.specs.Errors.{error_number, error_word}
+use Rattle.xn_bytes.specs.Escapes.{escaped}
+use Rattle.xn_bytes.specs.Entries.{Entry}
+
+-- between the words of a line
+abbrev pub space : ℕ
+space = 32
+
+-- at the end of a line
+abbrev pub newline : ℕ
+newline = 10
+
+-- ---- lines that are no replies
+
+-- told to words that are none of the forms
+abbrev pub usage_line : List ℕ
+usage_line = codes "usage" ++ newline ∷ []
+
+-- told of an inode that this version doesn't list
+abbrev pub unbuilt_line : List ℕ
+unbuilt_line = codes "unbuilt" ++ newline ∷ []
+
+-- the rule that an image breaks, the inode that breaks it, and the block
+abbrev pub image_line : ℕ → ℕ → ℕ → List ℕ
+image_line rule inode block =
+    codes "image rule " ++ decimal rule ++ codes " inode " ++ decimal inode ++ codes " block " ++ decimal block ++ newline ∷ []
+
+-- ---- replies
+
+-- of a list: a name, and the inode that it names with its kind
+pub record Line : Type 0 where
+  pub ino : ℕ
+  pub kind : Kind
+  pub name : List ℕ
+
+-- an entry's line, wherever the entry stands
+abbrev pub line_of : Entry → Line
+line_of entry = record { ino = entry.ino; kind = entry.kind; name = entry.name }
+
+-- A reply: done; an inode and its kind; the lines of a list; or an error.
+pub data Reply : Type 0 where
+  Plain : Reply
+  EntryOf : ℕ → Kind → Reply
+  ListOf : List Line → Reply
+  ErrorOf : Errno → Reply
+
+-- the text of a line: `INO KIND NAME`, the name escaped
+abbrev pub line_text : Line → List ℕ
+line_text line = decimal line.ino ++ space ∷ [] ++ kind_word line.kind ++ space ∷ [] ++ escaped line.name ++ newline ∷ []
+
+-- the text of a reply: `ok`; `ok INO KIND`; `ok COUNT` and a line for each entry; or `error NUMBER NAME`
+abbrev pub reply_text : Reply → List ℕ
+reply_text Plain = codes "ok" ++ newline ∷ []
+reply_text (EntryOf ino kind) = codes "ok " ++ decimal ino ++ space ∷ [] ++ kind_word kind ++ newline ∷ []
+reply_text (ListOf lines) = codes "ok " ++ decimal (length lines) ++ newline ∷ [] ++ flat_map line_text lines
+reply_text (ErrorOf error) = codes "error " ++ decimal (error_number error) ++ space ∷ [] ++ error_word error ++ newline ∷ []
+
+-- the text of the line of an entry
+abbrev pub entry_line : Entry → List ℕ
+entry_line entry = line_text (line_of entry)
+
+-- the text of the reply that lists entries
+abbrev pub list_text : List Entry → List ℕ
+list_text entries = codes "ok " ++ decimal (length entries) ++ newline ∷ [] ++ flat_map entry_line entries

@@ -1,0 +1,47 @@
+ghost use Rattle.std.specs.Prelude.{◌≡◌};
+ghost use Rattle.xn_inode.specs.Faults.{fork_fault_of};
+ghost use Rattle.xn_inode.specs.declared.fork_fault.ForkFault.TheVariants.{Memory};
+
+use crate::store::StoreFault;
+use std::alloc::{AllocError, AllocFailed};
+
+/// Why a fork of an inode, or what stands in its blocks, was not read or changed.
+#[derive(Clone, Copy, Debug, PartialEq, Eq)]
+pub enum ForkFault {
+    /// Reading failed. It comes only where the store's count of faults rose.
+    Read,
+    /// Memory ran out.
+    Memory,
+    /// The inode breaks this rule of the checker. Rules of blocks name the block by its number on the device, all
+    /// others block 0.
+    Broken { rule: u8, block: u64 },
+    /// It is a directory in leaf or node form, which this version doesn't read.
+    Unbuilt,
+}
+
+impl From<StoreFault> for ForkFault {
+    ghost from_gives = { λ store fault. fault ≡ fork_fault_of store };
+
+    fn from(fault: StoreFault) -> ForkFault {
+        match fault {
+            StoreFault::Read => ForkFault::Read,
+            StoreFault::Memory => ForkFault::Memory,
+        }
+    }
+}
+
+impl From<AllocError> for ForkFault {
+    ghost from_gives = { λ _ fault. fault ≡ Memory };
+
+    fn from(_: AllocError) -> ForkFault {
+        ForkFault::Memory
+    }
+}
+
+impl<T: Drop> From<AllocFailed<T>> for ForkFault {
+    ghost from_gives = { λ _ fault. fault ≡ Memory };
+
+    fn from(_: AllocFailed<T>) -> ForkFault {
+        ForkFault::Memory
+    }
+}
