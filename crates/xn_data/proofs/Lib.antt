@@ -1,0 +1,9 @@
+pub mod Regions
+pub mod Weighing
+pub mod Walk
+pub mod Verdicts
+pub mod Forms
+pub mod Standing
+pub mod Searching
+pub mod Places
+pub mod Law

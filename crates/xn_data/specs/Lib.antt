@@ -1,0 +1,5 @@
+pub mod Checks
+pub mod Weighing
+pub mod Viewed
+pub mod Standing
+pub mod Searching
