@@ -1,5 +1,5 @@
 #!/usr/bin/env bash
-# Builds the program, makes a small image in the folder demo/, and lists its root directory.
+# Builds the program, makes two small images in the folder demo/, and lists the root directory of the first.
 set -eu
 top=$(cd "$(dirname "$0")" && pwd)
 mkdir -p "$top/demo"
@@ -13,7 +13,7 @@ build() {
 
 make_demo=$(build xn_demo)
 # `rt run` has run it in its own folder too.
-rm -f "$top/crates/xn_demo/demo.img" "$top/crates/xn_demo/demo.manifest"
+rm -f "$top/crates/xn_demo/"*.img "$top/crates/xn_demo/"*.manifest
 xfsns=$(build xfsns)
 cd "$top/demo"
 "$make_demo"

@@ -1,5 +1,5 @@
-//! Writes `demo.img`, a small image whose root directory holds a few names, and `demo.manifest` into the folder that it
-//! runs in.
+//! Writes two small images into the folder that it runs in: `demo.img`, whose root directory is in short form and holds a
+//! few names, and `block.img`, whose root directory is in block form and holds eleven. Each has its manifest.
 #![tactic(auto)]
 
 ghost use Rattle.std.specs.Prelude.{◌^◌, ◌<◌};
@@ -8,7 +8,7 @@ use anyhow::{Context, Result};
 use std::fs;
 use std::fs::{File, Files, OpenFile};
 use std::io::{Seek, SeekFrom, Write};
-use xn_make::{ROOT, ROOT_SECTOR, SECTORS, directory_inode, superblock};
+use xn_make::{ROOT, ROOT_SECTOR, SECTORS, block_image, directory_inode, superblock};
 
 /// A directory in short form: parent 128, and the entries `a`, `file one` and `caf` with two bytes of UTF-8.
 const FORM: &[u8; 44] = b"\x03\x00\x00\x00\x00\x80\
@@ -25,6 +25,12 @@ fn main(rt: HostRuntime) -> Result<()> {
     write_sector(&mut image, ROOT_SECTOR, &directory_inode(ROOT, FORM))?;
     fs::write(&rt, "demo.manifest", MANIFEST).context("making demo.manifest")?;
     println!(rt; "demo.img and demo.manifest are made; the root directory is inode {ROOT}")?;
+    let whole = block_image(rt.alloc())
+        .ok()
+        .context("making room for block.img")?;
+    fs::write(&rt, "block.img", &whole).context("making block.img")?;
+    fs::write(&rt, "block.manifest", MANIFEST).context("making block.manifest")?;
+    println!(rt; "block.img and block.manifest are made; the root directory is inode {ROOT}")?;
     Ok(())
 }
 

@@ -1,0 +1,6 @@
+pub mod Fixed
+pub mod SpelledInodes
+pub mod SpelledBlocks
+pub mod Directories
+pub mod Laid
+pub mod Images
