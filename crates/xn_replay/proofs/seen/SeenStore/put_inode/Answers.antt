@@ -1,0 +1,21 @@
+use Rattle.xn_bytes.specs.Superblock.{sector_of_inode}
+use Rattle.xn_replay.proofs.Putting.{was_put}
+use Rattle.xn_replay.proofs.seen.SeenStore.put_inode.Goals as goal
+
+pub returns-clause-put : goal.returns-clause-put
+returns-clause-put g c =
+    (was_put c.keep.result c.map_err.result _ _ _ _ _ _ _ _ 1 (λ s. sector_of_inode s c.args.number) _
+    c.requires.whole c.geometry.ensures c.sector_of_inode-sector.ensures.value c.sector_of_inode-sector.ensures.within c.requires.size
+    c.keep.ensures.shape c.keep.ensures.free c.keep.ensures.ok c.keep.ensures.err c.map_err.ensures.variant).put
+
+pub returns-clause-part : goal.returns-clause-part
+returns-clause-part g c =
+    (was_put c.keep.result c.map_err.result _ _ _ _ _ _ _ _ 1 (λ s. sector_of_inode s c.args.number) _
+    c.requires.whole c.geometry.ensures c.sector_of_inode-sector.ensures.value c.sector_of_inode-sector.ensures.within c.requires.size
+    c.keep.ensures.shape c.keep.ensures.free c.keep.ensures.ok c.keep.ensures.err c.map_err.ensures.variant).part
+
+pub returns-clause-whole : goal.returns-clause-whole
+returns-clause-whole g c =
+    (was_put c.keep.result c.map_err.result _ _ _ _ _ _ _ _ 1 (λ s. sector_of_inode s c.args.number) _
+    c.requires.whole c.geometry.ensures c.sector_of_inode-sector.ensures.value c.sector_of_inode-sector.ensures.within c.requires.size
+    c.keep.ensures.shape c.keep.ensures.free c.keep.ensures.ok c.keep.ensures.err c.map_err.ensures.variant).whole
