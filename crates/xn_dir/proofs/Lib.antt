@@ -1,0 +1,11 @@
+pub mod OneBlock
+pub mod InodeFaults
+pub mod Names
+pub mod Collecting
+pub mod ShortForms
+pub mod Members
+pub mod Tails
+pub mod Leaves
+pub mod Indexes
+pub mod FirstBlocks
+pub mod OverImages
