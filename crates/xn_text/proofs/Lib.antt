@@ -1,0 +1,4 @@
+pub mod ArgumentLemmas
+pub mod NumberLemmas
+pub mod ListLemmas
+pub mod WordLemmas

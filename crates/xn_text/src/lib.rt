@@ -1,0 +1,17 @@
+//! The words of the command line, and the texts that the program tells: replies, and the lines that are no replies.
+#![tactic(auto)]
+
+mod arguments;
+mod line;
+mod number;
+mod reply;
+mod told;
+mod words;
+
+pub use line::{Lines, ListLine};
+pub use reply::Reply;
+pub use told::{image_line, usage_line};
+pub use words::{Words, WordsFault};
+
+#[cfg(test)]
+mod tests;
