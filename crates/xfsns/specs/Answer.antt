@@ -7,7 +7,9 @@ use Rattle.xn_bytes.specs.Entries.{Entry}
 use Rattle.xn_bytes.specs.Superblock.{Geometry}
 use Rattle.xn_bytes.specs.ShortDirectory.{ShortForm}
 use Rattle.xn_bytes.specs.Directory.{IsListing}
-use Rattle.xn_bytes.specs.Outcome.{IsPlain, AsksList, HasSuperblock, unbuilt_line, list_text}
+use Rattle.xn_bytes.specs.Words.{AsksList}
+use Rattle.xn_bytes.specs.Replies.{unbuilt_line, list_text}
+use Rattle.xn_bytes.specs.Outcome.{IsPlain, HasSuperblock}
 use Rattle.xfsns.specs.declared.answer.Fault.{Fault}
 use Rattle.xfsns.specs.declared.answer.Fault.TheVariants as faults
 

@@ -1,6 +1,6 @@
 -- What words that were read ask for.
 use Rattle.std.specs.Prelude.{◌≡◌, ◌≢◌, ℕ, List, length, slice_index}
-use Rattle.xn_bytes.specs.Outcome.{AsksList}
+use Rattle.xn_bytes.specs.Words.{AsksList}
 use Rattle.xfsns.specs.declared.words.Words.{Words}
 use Rattle.xfsns.specs.declared.words.Words.TheVariants as variants
 

@@ -2,7 +2,8 @@
 
 ghost use Rattle.std.specs.Prelude.{◌≡◌, ◌+◌, ◌≤◌, ◌*◌, ◌<◌, IfOk, IfErr, map, string_bytes};
 ghost use Rattle.xn_bytes.specs.Directory.{IsLive};
-ghost use Rattle.xn_bytes.specs.Outcome.{Answers, ListAnswers, unbuilt_line};
+ghost use Rattle.xn_bytes.specs.Outcome.{Answers, ListAnswers};
+ghost use Rattle.xn_bytes.specs.Replies.{unbuilt_line};
 ghost use Rattle.xfsns.specs.Home.{KeepsImage};
 ghost use Rattle.xfsns.specs.Answer.{AnswersOfInode, HasCauseOf, HasReadCause};
 ghost use Rattle.xfsns.specs.declared.answer.Fault.TheVariants.{Read, Memory};

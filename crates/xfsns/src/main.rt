@@ -92,4 +92,6 @@ fn cannot_open<R: Eprint>(rt: &R, word: &str) -> u8 {
 }
 
 #[cfg(test)]
+mod directory_tests;
+#[cfg(test)]
 mod tests;

@@ -2,8 +2,9 @@ use super::*;
 use std::alloc::Global;
 use std::fs;
 use std::test::Fail;
+use xn_bytes::put_checksum;
 use xn_machine::MemMachine;
-use xn_make::{DATA_FORK, ROOT, ROOT_SECTOR, directory_inode, put_checksum};
+use xn_make::{DATA_FORK, ROOT, ROOT_SECTOR, directory_inode};
 
 /// Parent 128, and the entry `a` to inode 131, a regular file.
 const ONE: &[u8; 15] = b"\x01\x00\x00\x00\x00\x80\x01\x00\x60a\x01\x00\x00\x00\x83";

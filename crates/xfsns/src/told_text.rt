@@ -1,7 +1,7 @@
 //! The lines that the program tells.
 
 ghost use Rattle.std.specs.Prelude.{◌≡◌, ◌++◌, OnOk, IfOk, decimal, map};
-ghost use Rattle.xn_bytes.specs.Outcome.{entry_line, list_text, image_line, usage_line, unbuilt_line};
+ghost use Rattle.xn_bytes.specs.Replies.{entry_line, list_text, image_line, usage_line, unbuilt_line};
 ghost use Rattle.xn_short.specs.Viewed.{entry_of};
 
 use std::alloc::Global;

@@ -1,7 +1,7 @@
 //! The words of the command line.
 
 ghost use Rattle.std.specs.Prelude.{◌≡◌, ◌≢◌, ◌<◌, ◌^◌, ◌↔◌, ℕ, IsTrue, MatchOption, decimal, map, string_bytes};
-ghost use Rattle.xn_bytes.specs.Outcome.{AsksList, IsWord};
+ghost use Rattle.xn_bytes.specs.Words.{AsksList, IsWord};
 ghost use Rattle.xfsns.specs.Words.{AsksFor, HasPlainFront};
 
 /// What the words ask for.

@@ -1,6 +1,6 @@
 use Rattle.std.proofs.Common.{◌≡◌, ◌++◌, ◌∷◌, [], length, take, map}
 use Rattle.std.specs.Prelude.{codes, decimal, flat_map}
-use Rattle.xn_bytes.specs.Outcome.{entry_line}
+use Rattle.xn_bytes.specs.Replies.{entry_line}
 use Rattle.xn_short.specs.Viewed.{entry_of}
 use Rattle.xfsns.proofs.told_text.list.Given as goal
 
