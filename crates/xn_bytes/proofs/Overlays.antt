@@ -1,10 +1,10 @@
 -- Bytes with others laid over them, and pieces of such bytes, at any place and of any width.
-use Rattle.std.proofs.Common.{◌≡◌, ◌⊎◌, inl, inr, ℕ, zero, suc, ◌+◌, ◌-◌, ◌*◌, ◌<◌, ◌≤◌, List, [], ◌++◌, length, take, drop, get_or, refl, sym, ap, ◌∙◌, arith, length-take, length-drop, length-append, append_assoc, add-zero, mul-zero, mul-suc}
+use Rattle.std.proofs.Common.{◌≡◌, ◌≢◌, ◌⊎◌, inl, inr, ℕ, zero, suc, ◌+◌, ◌-◌, ◌*◌, ◌<◌, ◌≤◌, List, [], ◌++◌, length, take, drop, get_or, refl, sym, ap, ◌∙◌, arith, length-take, length-drop, length-append, append_assoc, add-zero, mul-zero, mul-suc}
 use Rattle.std.specs.Prelude.{slice_range}
 use Rattle.std.proofs.Math.Seq.{take-add}
 use Rattle.std.proofs.lemmas.List.{same_lists, append-nil, take-append-drop, get_or_append_left, get_or-append_right, get_or-take, get_or-drop, drop-drop, take_at, drop_at, take_all}
 use borrow.Rule.Slice.PartMut.{put_mid}
-use Rattle.xn_bytes.specs.Numbers.{overlaid}
+use Rattle.xn_bytes.specs.Numbers.{overlaid, sector_of}
 
 -- ---- lengths and single bytes
 
@@ -166,3 +166,16 @@ overlaid-longer xs at over to order h =
     sym both
     ∙ ap (overlaid (overlaid xs at over) (at + length over)) (sym stays)
     ∙ overlaid-same (overlaid xs at over) (at + length over) to order (omega arith)
+
+-- ---- sectors
+
+-- the sector that was put
+pub sector_of-overlaid-there : (image : List ℕ) (sector : ℕ) (bytes : List ℕ) → length bytes ≡ 512 → 512 * sector + 512 ≤ length image → sector_of (overlaid image (512 * sector) bytes) sector ≡ bytes
+sector_of-overlaid-there image sector bytes e h = slice_range-overlaid-there image (512 * sector) bytes (512 * sector + 512) (omega arith) (omega arith)
+
+-- another
+pub sector_of-overlaid-apart : (image : List ℕ) (put : ℕ) (bytes : List ℕ) (sector : ℕ) → length bytes ≡ 512 → 512 * put + 512 ≤ length image → sector ≢ put → 512 * sector + 512 ≤ length image → sector_of (overlaid image (512 * put) bytes) sector ≡ sector_of image sector
+sector_of-overlaid-apart image put bytes sector e h ne within =
+    let side : (sector < put) ⊎ (put < sector) = grind arith in
+    slice_range-overlaid-apart image (512 * put) bytes (512 * sector) (512 * sector + 512) (omega arith) (omega arith)
+    (elim side [ inl before ↦ inl (omega arith) | inr behind ↦ inr (omega arith) ])

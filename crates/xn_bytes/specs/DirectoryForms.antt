@@ -1,6 +1,6 @@
 -- What a directory of an image holds: one relation for its four forms, short, block, leaf and node. Entries are read from
 -- the short form or from the data blocks alone; the hashes by which they are found stand beside them.
-use Rattle.std.specs.Prelude.{◌≡◌, ◌≢◌, ◌⊎◌, ℕ, ◌+◌, ◌*◌, ◌/◌, ◌<◌, Bool, true, false, not, ◌==◌, if◌then◌else◌, List, [], ◌∷◌, ◌++◌, length, map, filter, flat_map, count_by, All, Any, IsPermutation, Some, None, IsSome}
+use Rattle.std.specs.Prelude.{◌≡◌, ◌≢◌, ◌⊎◌, ℕ, ◌+◌, ◌*◌, ◌/◌, ◌<◌, ◌≤◌, Bool, true, false, not, ◌==◌, if◌then◌else◌, List, [], ◌∷◌, ◌++◌, length, map, filter, flat_map, count_by, All, Any, IsPermutation, Some, None, IsSome}
 use Rattle.std.specs.List.{AllAdjacentBelow}
 use Rattle.std.specs.List.Sorted.{IsNonDecreasingBy}
 use Rattle.xn_bytes.specs.declared.kind.Kind.TheVariants.{Dir}
@@ -14,7 +14,7 @@ use Rattle.xn_bytes.specs.Entries.{Entry}
 use Rattle.xn_bytes.specs.ShortDirectory.{ShortForm, ShortHolds}
 use Rattle.xn_bytes.specs.DataBlock.{DataForm, DataHolds, LeafEntry, entries_among, gaps_among, greatest}
 use Rattle.xn_bytes.specs.Directory.{HasShortSize, short_bytes_of}
-use Rattle.xn_bytes.specs.HashedTree.{TreeReader, LeafHolds, TreeHolds, single_leaf_magic, leaf_file_block, HasBests, HasFreeIndex}
+use Rattle.xn_bytes.specs.HashedTree.{TreeReader, LeafHolds, HasSiblings, IsTree, single_leaf_magic, leaf_file_block, HasBests, HasBest, AreFreeIndexes}
 
 -- ---- the blocks of a fork
 
@@ -155,6 +155,7 @@ IsPlaced g dir runs blocks placed = (block : ℕ) × (mapped runs placed.file_bl
 -- all the data blocks that are mapped, in rising order
 pub record AreData (g : Geometry) (dir : ℕ) (runs : List Run) (blocks : ℕ → List ℕ) (data_blocks : List Placed) : Type 0 where
   pub each : All (IsPlaced g dir runs blocks) data_blocks
+  pub numbers : All (λ placed. IsDataNumber placed.file_block) data_blocks
   pub rising : AllAdjacentBelow (λ a b. a.file_block < b.file_block) data_blocks (length data_blocks)
   pub complete : (file_block : ℕ) → IsDataNumber file_block → IsSome (mapped runs file_block) → Any (λ placed. placed.file_block ≡ file_block) data_blocks
 
@@ -170,23 +171,24 @@ entries_placed placed = map (placed_in placed.file_block) (entries_among placed.
 abbrev pub best_of : Placed → ℕ
 best_of placed = greatest (gaps_among placed.form.regions)
 
--- The leaf entries of leaf form stand in one leaf, with the bests of all data blocks behind them.
+-- The leaf entries of leaf form stand in one leaf without siblings, and behind them the bests of all data blocks.
 pub record HasSingleLeaf (reader : TreeReader) (data_blocks : List Placed) (leaves : List LeafEntry) : Type 0 where
   pub leaf_form : IsLeafForm reader.runs
   pub block : ℕ
   pub at : mapped reader.runs leaf_file_block ≡ Some block
   pub leaf : LeafHolds reader.geometry reader.owner block single_leaf_magic (reader.blocks block) leaves
+  pub alone : HasSiblings (reader.blocks block) 0 0
   pub greatest_data : ℕ
   pub is_greatest : IsGreatestData reader.runs greatest_data
+  pub apart : 64 + 8 * length leaves + 2 * (greatest_data + 1) + 4 ≤ 4096
   pub bests : HasBests (map (λ placed. (placed.file_block, best_of placed)) data_blocks) (greatest_data + 1) (reader.blocks block)
 
 -- Those of node form stand in the leaves of a tree, and the bests in free-index blocks.
 pub record HasTree (reader : TreeReader) (data_blocks : List Placed) (leaves : List LeafEntry) : Type 0 where
   pub no_leaf_form : ¬ IsLeafForm reader.runs
-  pub level : ℕ
-  pub few_levels : level < 5
-  pub tree : TreeHolds level reader leaf_file_block leaves
-  pub bests : All (λ placed. HasFreeIndex reader placed.file_block (best_of placed)) data_blocks
+  pub tree : IsTree reader leaves
+  pub bests : All (λ placed. HasBest reader placed.file_block (best_of placed)) data_blocks
+  pub indexes : AreFreeIndexes reader
 
 pub record HoldsBlocks (g : Geometry) (dir : ℕ) (inode : List ℕ) (blocks : ℕ → List ℕ) (entries : List Entry) (dotdot : ℕ) : Type 0 where
   pub is_extents : number_at 1 5 inode ≡ extents_format
@@ -218,17 +220,24 @@ Holds g dir inode blocks entries dotdot =
 abbrev pub DirHolds : Geometry → List ℕ → ℕ → List Entry → ℕ → Type 0
 DirHolds g image dir entries dotdot = Holds g dir (inode_of g image dir) (block_of g image) entries dotdot
 
--- dot and dotdot in front of the first data block of a directory in blocks
-pub record ReadsDots (g : Geometry) (dir : ℕ) (inode : List ℕ) (blocks : ℕ → List ℕ) (dotdot : ℕ) : Type 0 where
-  pub is_extents : number_at 1 5 inode ≡ extents_format
-  pub block : ℕ
-  pub first : mapped (data_runs_of inode) 0 ≡ Some block
-  pub is_block_form : Bool
-  pub form : DataForm
-  pub data_block : IsDataBlockOf g dir is_block_form block (blocks block) form
-  pub others : List Entry
-  pub dots : HasDots (entries_among form.regions) others dotdot
+-- ---- what stands in a directory, whatever its leaf entries say
 
--- the dotdot of the directory with these inode bytes and blocks, by the short form or the first data block alone
-abbrev pub HasParent : Geometry → ℕ → List ℕ → (ℕ → List ℕ) → ℕ → Type 0
-HasParent g dir inode blocks dotdot = ((entries : List Entry) × HoldsShort inode entries dotdot) ⊎ ReadsDots g dir inode blocks dotdot
+-- The entries that stand in the short form, or in the one block of block form, behind dot and dotdot.
+abbrev pub StandIn : Geometry → ℕ → List ℕ → (ℕ → List ℕ) → List Entry → ℕ → Type 0
+StandIn g dir inode blocks entries dotdot =
+    HoldsShort inode entries dotdot
+    ⊎ ((block : ℕ) × (form : DataForm) × (number_at 1 5 inode ≡ extents_format) × IsBlockForm (data_runs_of inode) block
+    × HasBlocksSize inode × HoldsFirst g dir block (blocks block) form entries dotdot)
+
+-- In block form the leaf entries are sorted, and they are those of the entries.
+abbrev pub HasIndex : List ℕ → (ℕ → List ℕ) → Type 0
+HasIndex inode blocks =
+    (block : ℕ) (form : DataForm) → number_at 1 5 inode ≡ extents_format → IsBlockForm (data_runs_of inode) block → DataHolds (blocks block) form
+    → AreSorted form.leaves × IsIndexOf form.leaves (entries_among form.regions)
+
+-- the same over an image
+abbrev pub EntriesStand : Geometry → List ℕ → ℕ → List Entry → ℕ → Type 0
+EntriesStand g image dir entries dotdot = StandIn g dir (inode_of g image dir) (block_of g image) entries dotdot
+
+abbrev pub IsIndexed : Geometry → List ℕ → ℕ → Type 0
+IsIndexed g image dir = HasIndex (inode_of g image dir) (block_of g image)

@@ -4,7 +4,7 @@ use Rattle.std.specs.Prelude.{◌≡◌, ◌≢◌, ◌⊎◌, ℕ, List}
 use Rattle.xn_bytes.specs.Numbers.{number_at}
 use Rattle.xn_bytes.specs.Superblock.{Geometry}
 use Rattle.xn_bytes.specs.Blocks.{block_of}
-use Rattle.xn_bytes.specs.Inode.{inode_of, local_format, HasCore, HasBothForks}
+use Rattle.xn_bytes.specs.Inode.{inode_of, local_format, extents_format, HasCore, HasBothForks}
 use Rattle.xn_bytes.specs.Entries.{Entry}
 use Rattle.xn_bytes.specs.ShortDirectory.{ShortForm, ShortHolds}
 use Rattle.xn_bytes.specs.DataBlock.{DataForm, entries_among}
@@ -67,3 +67,10 @@ pub record IsUnbuilt (g : Geometry) (inode : List ℕ) (dir : ℕ) : Type 0 wher
   pub lists : HasExtentLists g inode
   pub not_short : number_at 1 5 inode ≢ local_format
   pub not_block : (block : ℕ) → ¬ IsBlockForm (data_runs_of inode) block
+
+-- Rules 10, 11 and 13 hold of the directory, and it is in short or block form.
+pub record IsBuilt (g : Geometry) (inode : List ℕ) (dir : ℕ) : Type 0 where
+  pub core : HasCore inode dir g.meta_uuid
+  pub forks : HasBothForks g inode dir
+  pub lists : HasExtentLists g inode
+  pub form : (number_at 1 5 inode ≡ local_format) ⊎ ((number_at 1 5 inode ≡ extents_format) × ((block : ℕ) × IsBlockForm (data_runs_of inode) block))

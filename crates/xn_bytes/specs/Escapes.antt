@@ -1,4 +1,4 @@
--- Names and paths as text of one line: what is no printable ASCII, and `\` itself, is written as `\` with the byte's
+-- Names and paths as text of one line: what is none of the bytes 0x21 to 0x7e, and `\` itself, is written as `\` with the byte's
 -- two hexadecimal digits in lower case.
 use Rattle.std.specs.Prelude.{◌≡◌, ◌≢◌, ℕ, ◌+◌, ◌/◌, ◌%◌, ◌<◌, ◌&&◌, ◌==◌, nat_le, nat_lt, not, if◌then◌else◌, Bool, List, [], ◌∷◌, ◌++◌, length, take, drop, All, flat_map}
 use Rattle.xn_bytes.specs.declared.escaped_text.EscapeFault.{EscapeFault}

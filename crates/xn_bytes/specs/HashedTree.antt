@@ -1,6 +1,6 @@
 -- The blocks by whose hashes a directory in leaf or node form is looked up (`struct xfs_da3_blkinfo`,
 -- `xfs_dir3_leaf_hdr`, `xfs_da3_node_hdr` and `xfs_dir3_free_hdr` of `xfs_da_format.h`).
-use Rattle.std.specs.Prelude.{◌≡◌, ℕ, zero, suc, ◌+◌, ◌-◌, ◌*◌, ◌/◌, ◌%◌, ◌<◌, ◌≤◌, ◌==◌, List, [], ◌∷◌, ◌++◌, length, slice_range, count_by, flat_map, All, Some}
+use Rattle.std.specs.Prelude.{◌≡◌, ◌≢◌, ℕ, zero, suc, ◌+◌, ◌-◌, ◌*◌, ◌/◌, ◌%◌, ◌<◌, ◌≤◌, ◌==◌, not, List, [], ◌∷◌, ◌++◌, length, slice_range, slice_index, count_by, flat_map, All, AllPairs, Some, IsSome}
 use Rattle.xn_bytes.specs.Numbers.{number_at}
 use Rattle.xn_bytes.specs.Checksum.{HasChecksum}
 use Rattle.xn_bytes.specs.Superblock.{Geometry, sector_of_block}
@@ -74,23 +74,74 @@ pub record EndsWith (leaves : List LeafEntry) (hash : ℕ) : Type 0 where
   pub address : ℕ
   pub last : leaves ≡ before ++ record { hash = hash; address = address } ∷ []
 
--- under each child stand its leaf entries, of which the last has its hash
-abbrev pub AreUnder : (ℕ → List LeafEntry → Type 0) → List Child → List (List LeafEntry) → Type 0
+-- ---- a tree
+
+-- what stands under a block: its leaf entries from left to right, and the file blocks of each level, the highest first
+pub record Subtree : Type 0 where
+  pub leaves : List LeafEntry
+  pub levels : List (List ℕ)
+
+-- the levels of two subtrees of one height, side by side
+abbrev pub beside : List (List ℕ) → List (List ℕ) → List (List ℕ)
+beside [] others = others
+beside (level ∷ levels) [] = level ∷ levels
+beside (level ∷ levels) (other ∷ others) = (level ++ other) ∷ beside levels others
+
+-- the levels of many
+abbrev pub levels_of : List Subtree → List (List ℕ)
+levels_of [] = []
+levels_of (part ∷ parts) = beside part.levels (levels_of parts)
+
+-- under each child stands its subtree, whose last leaf entry has the child's hash
+abbrev pub AreUnder : (ℕ → Subtree → Type 0) → List Child → List Subtree → Type 0
 AreUnder IsUnder [] [] = Unit {0}
 AreUnder IsUnder [] (part ∷ parts) = ⊥
 AreUnder IsUnder (child ∷ children) [] = ⊥
-AreUnder IsUnder (child ∷ children) (part ∷ parts) = IsUnder child.file_block part × EndsWith part child.hash × AreUnder IsUnder children parts
+AreUnder IsUnder (child ∷ children) (part ∷ parts) = IsUnder child.file_block part × EndsWith part.leaves child.hash × AreUnder IsUnder children parts
 
--- the leaf entries of the tree under a file block, from left to right; a leaf has level 0
-abbrev pub TreeHolds : ℕ → TreeReader → ℕ → List LeafEntry → Type 0
-TreeHolds zero reader file_block leaves =
-    (block : ℕ) × (mapped reader.runs file_block ≡ Some block) × LeafHolds reader.geometry reader.owner block leaf_magic (reader.blocks block) leaves
-TreeHolds (suc level) reader file_block leaves =
-    (block : ℕ) × (children : List Child) × (parts : List (List LeafEntry))
+-- the subtree under a file block; a leaf has level 0
+abbrev pub TreeHolds : ℕ → TreeReader → ℕ → Subtree → Type 0
+TreeHolds zero reader file_block subtree =
+    (block : ℕ) × (mapped reader.runs file_block ≡ Some block)
+    × LeafHolds reader.geometry reader.owner block leaf_magic (reader.blocks block) subtree.leaves
+    × (subtree.levels ≡ (file_block ∷ []) ∷ [])
+TreeHolds (suc level) reader file_block subtree =
+    (block : ℕ) × (children : List Child) × (parts : List Subtree)
     × (mapped reader.runs file_block ≡ Some block)
     × NodeHolds reader.geometry reader.owner block (suc level) (reader.blocks block) children
     × AreUnder (λ child part. TreeHolds level reader child part) children parts
-    × (leaves ≡ flat_map (λ part. part) parts)
+    × (subtree.leaves ≡ flat_map (λ part. part.leaves) parts)
+    × (subtree.levels ≡ (file_block ∷ []) ∷ levels_of parts)
+
+-- the file blocks on the right and on the left of a leaf or node on its level, 0 at the ends
+pub record HasSiblings (bytes : List ℕ) (left right : ℕ) : Type 0 where
+  pub on_right : number_at 4 0 bytes ≡ right
+  pub on_left : number_at 4 4 bytes ≡ left
+
+abbrev pub IsBetween : TreeReader → ℕ → ℕ → ℕ → Type 0
+IsBetween reader file_block left right = (block : ℕ) × (mapped reader.runs file_block ≡ Some block) × HasSiblings (reader.blocks block) left right
+
+-- the file blocks of a level, from left to right, behind one on their left
+abbrev pub AreSiblings : TreeReader → ℕ → List ℕ → Type 0
+AreSiblings reader left [] = Unit {0}
+AreSiblings reader left (file_block ∷ []) = IsBetween reader file_block left 0
+AreSiblings reader left (file_block ∷ (next ∷ others)) = IsBetween reader file_block left next × AreSiblings reader file_block (next ∷ others)
+
+-- a file block that a tree of a directory can have
+pub record IsTreeNumber (file_block : ℕ) : Type 0 where
+  pub from : leaf_file_block ≤ file_block
+  pub below : file_block < free_file_block
+
+-- The tree under file block 8,388,608, of at most five levels: each block stands once, and those of a level name each
+-- other as siblings.
+pub record IsTree (reader : TreeReader) (leaves : List LeafEntry) : Type 0 where
+  pub level : ℕ
+  pub few_levels : level < 5
+  pub levels : List (List ℕ)
+  pub holds : TreeHolds level reader leaf_file_block (record { leaves = leaves; levels = levels })
+  pub siblings : All (AreSiblings reader 0) levels
+  pub once : AllPairs (λ a b. a ≢ b) (flat_map (λ level. level) levels)
+  pub within : All IsTreeNumber (flat_map (λ level. level) levels)
 
 -- ---- bests
 
@@ -105,15 +156,45 @@ pub record HasBests (bests : List (ℕ × ℕ)) (count : ℕ) (bytes : List ℕ)
   pub each : All (λ best. number_at 2 (4092 - 2 * count + 2 * best.0) bytes ≡ best.1) bests
   pub none : (number : ℕ) → number < count → All (λ best. (best.0 ≡ number) → ⊥) bests → number_at 2 (4092 - 2 * count + 2 * number) bytes ≡ no_best
 
--- the free-index block that has the best of a data block is mapped, and has this one among its valid ones
-pub record HasFreeIndex (reader : TreeReader) (number best : ℕ) : Type 0 where
-  pub block : ℕ
-  pub at : mapped reader.runs (free_file_block + number / 2016) ≡ Some block
-  pub is_magic : number_at 4 0 (reader.blocks block) ≡ free_index_magic
-  pub checksum : HasChecksum (reader.blocks block) 4
-  pub place : number_at 8 8 (reader.blocks block) ≡ sector_of_block reader.geometry block
-  pub uuid : slice_range (reader.blocks block) 24 40 ≡ reader.geometry.meta_uuid
-  pub own_inode : number_at 8 40 (reader.blocks block) ≡ reader.owner
-  pub first : number_at 4 48 (reader.blocks block) ≡ 2016 * (number / 2016)
-  pub valid : number % 2016 < number_at 4 52 (reader.blocks block)
-  pub value : number_at 2 (64 + 2 * (number % 2016)) (reader.blocks block) ≡ best
+-- numbers of two bytes side by side
+abbrev pub bests_at : ℕ → ℕ → List ℕ → List ℕ
+bests_at zero at bytes = []
+bests_at (suc count) at bytes = number_at 2 at bytes ∷ bests_at count (at + 2) bytes
+
+-- Free-index block `index` holds bests of the data blocks from 2,016 times its number on; those that are none aren't
+-- counted as used.
+pub record FreeIndexHolds (g : Geometry) (owner index block : ℕ) (bytes bests : List ℕ) : Type 0 where
+  pub whole : length bytes ≡ 4096
+  pub is_magic : number_at 4 0 bytes ≡ free_index_magic
+  pub checksum : HasChecksum bytes 4
+  pub place : number_at 8 8 bytes ≡ sector_of_block g block
+  pub uuid : slice_range bytes 24 40 ≡ g.meta_uuid
+  pub own_inode : number_at 8 40 bytes ≡ owner
+  pub first : number_at 4 48 bytes ≡ 2016 * index
+  pub few : length bests ≤ 2016
+  pub valid : number_at 4 52 bytes ≡ length bests
+  pub used : number_at 4 56 bytes ≡ count_by (λ best. not (best == no_best)) bests
+  pub are : bests ≡ bests_at (length bests) 64 bytes
+
+-- a mapped free-index block and what it holds
+abbrev pub HasFreeIndex : TreeReader → ℕ → List ℕ → Type 0
+HasFreeIndex reader index bests =
+    (block : ℕ) × (mapped reader.runs (free_file_block + index) ≡ Some block)
+    × FreeIndexHolds reader.geometry reader.owner index block (reader.blocks block) bests
+
+-- the best of a data block stands among the valid ones of its free-index block
+abbrev pub HasBest : TreeReader → ℕ → ℕ → Type 0
+HasBest reader number best =
+    (bests : List ℕ) × HasFreeIndex reader (number / 2016) bests × (number % 2016 < length bests) × (slice_index bests (number % 2016) ≡ best)
+
+-- a data block that is mapped
+pub record IsMappedData (reader : TreeReader) (number : ℕ) : Type 0 where
+  pub below : number < leaf_file_block
+  pub there : IsSome (mapped reader.runs number)
+
+-- Each free-index block that is mapped holds bests, none for a data block that isn't mapped.
+abbrev pub AreFreeIndexes : TreeReader → Type 0
+AreFreeIndexes reader =
+    (index : ℕ) → IsSome (mapped reader.runs (free_file_block + index))
+    → (bests : List ℕ) × HasFreeIndex reader index bests
+    × ((k : ℕ) → k < length bests → ¬ IsMappedData reader (2016 * index + k) → slice_index bests k ≡ no_best)

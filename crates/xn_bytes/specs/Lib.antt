@@ -19,4 +19,7 @@ pub mod Causes
 pub mod Errors
 pub mod Words
 pub mod Replies
+pub mod Paths
+pub mod NameSpace
+pub mod Reading
 pub mod Outcome

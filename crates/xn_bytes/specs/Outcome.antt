@@ -1,18 +1,14 @@
 -- What the program answers: one relation from its words and the image to its status and what it tells.
-use Rattle.std.specs.Prelude.{◌≡◌, ◌≢◌, ◌⊎◌, ℕ, ◌+◌, ◌/◌, ◌≤◌, List, [], ◌++◌, length, take, Option, Some, None, IfSome, MatchOption}
-use Rattle.xn_bytes.specs.declared.kind.Kind.TheVariants.{Dir}
+use Rattle.std.specs.Prelude.{◌≡◌, ◌⊎◌, ℕ, ◌+◌, ◌-◌, ◌/◌, ◌≤◌, List, [], ◌++◌, length, take, Option, Some, None, IfSome, MatchOption}
 use Rattle.xn_bytes.specs.declared.status.Status.{Status}
 use Rattle.xn_bytes.specs.declared.status.Status.TheVariants.{Done, Usage, Image, ReadFault, SayFault, Memory, Unbuilt}
-use Rattle.xn_bytes.specs.Numbers.{number_at, sector_of}
+use Rattle.xn_bytes.specs.Numbers.{sector_of}
 use Rattle.xn_bytes.specs.Causes.{Rose}
-use Rattle.xn_bytes.specs.Kinds.{kind_of_mode}
-use Rattle.xn_bytes.specs.Entries.{Entry}
 use Rattle.xn_bytes.specs.Superblock.{Geometry, geometry_of, IsSuperblock}
-use Rattle.xn_bytes.specs.Inode.{inode_of, local_format, HasCore, HasBothForks}
-use Rattle.xn_bytes.specs.ShortDirectory.{ShortForm, ShortHolds}
-use Rattle.xn_bytes.specs.Directory.{IsLive, HasShortSize, short_bytes_of, HasNames, IsListing}
-use Rattle.xn_bytes.specs.Words.{AsksList}
-use Rattle.xn_bytes.specs.Replies.{usage_line, unbuilt_line, image_line, list_text}
+use Rattle.xn_bytes.specs.Words.{AsksList, AsksResolve, AsksNothing}
+use Rattle.xn_bytes.specs.Replies.{usage_line, unbuilt_line, image_line, reply_text}
+use Rattle.xn_bytes.specs.NameSpace.{End, Says, Breaks, Beyond}
+use Rattle.xn_bytes.specs.Reading.{ListEnds, ResolveEnds, ListReads, ResolveReads}
 
 -- ---- the image
 
@@ -24,51 +20,43 @@ geometry_in image = geometry_of (sector_of image 0)
 abbrev pub HasSuperblock : List ℕ → Type 0
 HasSuperblock image = IsSuperblock (sector_of image 0) (length image / 512)
 
--- the bytes of an inode of an image
-abbrev pub inode_in : List ℕ → ℕ → List ℕ
-inode_in image ino = inode_of (geometry_in image) image ino
-
--- A plain directory, by its inode's bytes: core and forks are sound, it is a directory in short form that is the root
--- or has a link, and its form is lawful, with a name in each entry and each name once.
-pub record IsPlain (g : Geometry) (ino : ℕ) (inode : List ℕ) (form : ShortForm) : Type 0 where
-  pub live : IsLive g ino
-  pub core : HasCore inode ino g.meta_uuid
-  pub forks : HasBothForks g inode ino
-  pub directory : kind_of_mode (number_at 2 2 inode) ≡ Some Dir
-  pub short : number_at 1 5 inode ≡ local_format
-  pub attached : (ino ≡ g.root) ⊎ (number_at 4 16 inode ≢ 0)
-  pub size : HasShortSize inode
-  pub spelled : ShortHolds (short_bytes_of inode) form
-  pub names : HasNames form.entries
-
 -- ---- the answers
 
--- What `list` answers of an inode: the status, and the text that it tells. Where an image is told, the cases shut each
--- other out, so each status comes exactly where its cause stands.
-abbrev pub ListAnswers : Option (List ℕ) → ℕ → Status → List ℕ → Type 0
-ListAnswers image ino Image told = (told ≡ image_line 1 0 0) × IfSome image (λ x. ¬ HasSuperblock x)
-ListAnswers image ino Unbuilt told =
-    (told ≡ unbuilt_line)
-    × IfSome image (λ x. HasSuperblock x × ((form : ShortForm) → ¬ IsPlain (geometry_in x) ino (inode_in x ino) form))
-ListAnswers image ino Done told =
-    (sorted : List Entry) × (told ≡ list_text sorted)
-    × IfSome image (λ x. HasSuperblock x × ((form : ShortForm) × IsPlain (geometry_in x) ino (inode_in x ino) form × IsListing form.entries sorted))
--- no other status is an answer
-ListAnswers image ino Usage told = ⊥
-ListAnswers image ino ReadFault told = ⊥
-ListAnswers image ino SayFault told = ⊥
-ListAnswers image ino Memory told = ⊥
+-- the status with which the end of a command is told
+abbrev pub end_status : End → Status
+end_status (Says reply) = Done
+end_status (Breaks inode rule block) = Image
+end_status Beyond = Unbuilt
+
+-- and the text
+abbrev pub end_text : End → List ℕ
+end_text (Says reply) = reply_text reply
+end_text (Breaks inode rule block) = image_line rule inode block
+end_text Beyond = unbuilt_line
+
+-- What a command that reads answers: that the superblock is not accepted, or else the end that the command has over the
+-- image, by its geometry. Where an image is told, each answer comes exactly where its cause stands.
+abbrev pub Reads : (Geometry → List ℕ → End → Type 0) → Option (List ℕ) → Status → List ℕ → Type 0
+Reads EndsWith image status told =
+    ((status ≡ Image) × (told ≡ image_line 1 0 0) × IfSome image (λ x. ¬ HasSuperblock x))
+    ⊎ ((end : End) × (status ≡ end_status end) × (told ≡ end_text end) × IfSome image (λ x. HasSuperblock x × EndsWith (geometry_in x) x end))
 
 -- what is answered to words that are none of the forms
 pub record UsageAnswers (words : List (List ℕ)) (status : Status) (told : List ℕ) : Type 0 where
-  pub no_list : (ino : ℕ) → ¬ AsksList words ino
+  pub nothing : AsksNothing words
   pub is_usage : status ≡ Usage
   pub line : told ≡ usage_line
 
 -- What the program answers to words over an image, where one is told.
 abbrev pub Answers : List (List ℕ) → Option (List ℕ) → Status → List ℕ → Type 0
 Answers words image status told =
-    UsageAnswers words status told ⊎ ((ino : ℕ) × AsksList words ino × ListAnswers image ino status told)
+    UsageAnswers words status told
+    ⊎ ((ino : ℕ) × AsksList words ino × Reads (λ g. ListEnds g ino) image status told)
+    ⊎ ((path : List ℕ) × AsksResolve words path × Reads (λ g. ResolveEnds g path) image status told)
+
+-- the words ask for something that is read from the image
+abbrev pub AsksToRead : List (List ℕ) → Type 0
+AsksToRead words = ((ino : ℕ) × AsksList words ino) ⊎ ((path : List ℕ) × AsksResolve words path)
 
 -- ---- the outcome of a call
 
@@ -93,12 +81,18 @@ Tells before now bytes = MatchOption before.told (now.told ≡ None) (λ told. n
 abbrev pub TellsAnswer : List (List ℕ) → Outside → Outside → Status → Type 0
 TellsAnswer words before now status = (text : List ℕ) × Answers words before.image status text × Tells before now text
 
--- A read that failed: words of the form were there, and no answer could be given without it, so that after the first
--- read the superblock is accepted.
+-- The command reads from an image, beside the superblock, so many times.
+abbrev pub IsDue : List (List ℕ) → List ℕ → ℕ → Type 0
+IsDue words image count =
+    ((ino : ℕ) × AsksList words ino × ListReads (geometry_in image) ino image count)
+    ⊎ ((path : List ℕ) × AsksResolve words path × ResolveReads (geometry_in image) path image count)
+
+-- Reading failed: words of a form were there, and no more was read than the superblock, or, where that is accepted, than
+-- the command reads from the image.
 pub record FailsToRead (words : List (List ℕ)) (before now : Outside) : Type 0 where
-  pub asks : (ino : ℕ) × AsksList words ino
+  pub asks : AsksToRead words
   pub rose : Rose before.read_faults now.read_faults
-  pub due : IfSome before.image (λ x. (now.reads ≤ before.reads + 1) ⊎ HasSuperblock x)
+  pub due : IfSome before.image (λ x. (now.reads ≤ before.reads + 1) ⊎ (HasSuperblock x × IsDue words x (now.reads - (before.reads + 1))))
   pub silent : Tells before now []
 
 -- Telling that failed: a front of an answer was told.

@@ -21,7 +21,7 @@ newline = 10
 abbrev pub usage_line : List ℕ
 usage_line = codes "usage" ++ newline ∷ []
 
--- told of an inode that this version doesn't list
+-- told of a directory in leaf or node form, which this version doesn't read
 abbrev pub unbuilt_line : List ℕ
 unbuilt_line = codes "unbuilt" ++ newline ∷ []
 
@@ -59,11 +59,3 @@ reply_text Plain = codes "ok" ++ newline ∷ []
 reply_text (EntryOf ino kind) = codes "ok " ++ decimal ino ++ space ∷ [] ++ kind_word kind ++ newline ∷ []
 reply_text (ListOf lines) = codes "ok " ++ decimal (length lines) ++ newline ∷ [] ++ flat_map line_text lines
 reply_text (ErrorOf error) = codes "error " ++ decimal (error_number error) ++ space ∷ [] ++ error_word error ++ newline ∷ []
-
--- the text of the line of an entry
-abbrev pub entry_line : Entry → List ℕ
-entry_line entry = line_text (line_of entry)
-
--- the text of the reply that lists entries
-abbrev pub list_text : List Entry → List ℕ
-list_text entries = codes "ok " ++ decimal (length entries) ++ newline ∷ [] ++ flat_map entry_line entries

@@ -16,7 +16,7 @@ pub enum Status {
     SayFault,
     /// Memory ran out.
     Memory,
-    /// The inode is not one that this version lists.
+    /// A directory that was looked at is in leaf or node form, which this version does not read.
     Unbuilt,
 }
 
