@@ -27,6 +27,10 @@ size : (core : CoreNumbers) (checksum : ℕ) (fork : List ℕ) → core.size < 2
 unfolding number_at
 size core checksum fork h = big_number-reads_back 8 core.size (drop 64 (inode_bytes core fork checksum)) h
 
+link_count : (core : CoreNumbers) (checksum : ℕ) (fork : List ℕ) → core.links < 2 ^ 32 → number_at 4 16 (inode_bytes core fork checksum) ≡ core.links
+unfolding number_at
+link_count core checksum fork h = big_number-reads_back 4 core.links (drop 20 (inode_bytes core fork checksum)) h
+
 pub generation : (core : CoreNumbers) (checksum : ℕ) (fork : List ℕ) → core.generation < 2 ^ 32 → number_at 4 92 (inode_bytes core fork checksum) ≡ core.generation
 unfolding number_at
 generation core checksum fork h = big_number-reads_back 4 core.generation (drop 96 (inode_bytes core fork checksum)) h
@@ -59,16 +63,16 @@ attributes core checksum fork l =
 
 -- ---- a directory in short form
 
-abbrev short_numbers : ℕ → ℕ → CoreNumbers
-short_numbers number size = record { number = number; mode = 0x4000; format = 1; links = 2; size = size; block_count = 0; extent_count = 0; generation = 1 }
+abbrev short_numbers : ℕ → ℕ → ℕ → CoreNumbers
+short_numbers number links size = record { number = number; mode = 0x4000; format = 1; links = links; size = size; block_count = 0; extent_count = 0; generation = 1 }
 
-short_fields : (number checksum : ℕ) (form : List ℕ) → length form ≤ 192 → CoreHolds (inode_bytes (short_numbers number (length form)) form checksum) (directory_core (length form))
+short_fields : (number links checksum : ℕ) (form : List ℕ) → length form ≤ 192 → links < 2 ^ 32 → CoreHolds (inode_bytes (short_numbers number links (length form)) form checksum) (directory_core links (length form))
 unfolding number_at
-short_fields number checksum form l = record {
+short_fields number links checksum form l few = record {
   kind = refl;
   permissions = refl;
-  nlink = refl;
-  size = sym (size (short_numbers number (length form)) checksum form (omega arith));
+  nlink = sym (link_count (short_numbers number links (length form)) checksum form few);
+  size = sym (size (short_numbers number links (length form)) checksum form (omega arith));
   nblocks = refl;
   generation = refl;
   fork_offset = refl;
@@ -79,43 +83,43 @@ short_fields number checksum form l = record {
   attr_extents = refl;
 }
 
-short_forks : (number checksum : ℕ) (form : List ℕ) → length form ≤ 192 → HasForks (inode_bytes (short_numbers number (length form)) form checksum)
+short_forks : (number links checksum : ℕ) (form : List ℕ) → length form ≤ 192 → HasForks (inode_bytes (short_numbers number links (length form)) form checksum)
 unfolding number_at
-short_forks number checksum form l = record {
+short_forks number links checksum form l = record {
   kind = refl;
-  offset = omega (arith, length-inode (short_numbers number (length form)) checksum form l);
+  offset = omega (arith, length-inode (short_numbers number links (length form)) checksum form l);
   directory = λ e. inl refl;
   attribute = λ e. inl refl;
 }
 
-short_bytes : (number checksum : ℕ) (form : List ℕ) → length form ≤ 192 → short_bytes_of (inode_bytes (short_numbers number (length form)) form checksum) ≡ form
-short_bytes number checksum form l =
-    let core = short_numbers number (length form) in
+short_bytes : (number links checksum : ℕ) (form : List ℕ) → length form ≤ 192 → short_bytes_of (inode_bytes (short_numbers number links (length form)) form checksum) ≡ form
+short_bytes number links checksum form l =
+    let core = short_numbers number links (length form) in
     let inode = inode_bytes core form checksum in
     ap (λ (n : ℕ). take n (data_fork_of inode)) (size core checksum form (omega arith))
     ∙ ap (take (length form)) (data_fork core checksum form)
     ∙ take-take (length form) 192 (from_forks form) l
     ∙ take_at form (drop (176 + length form) blank_inode) (length form) refl
 
-short_size : (number checksum : ℕ) (form : List ℕ) → length form ≤ 192 → HasShortSize (inode_bytes (short_numbers number (length form)) form checksum)
-short_size number checksum form l =
-    let core = short_numbers number (length form) in
+short_size : (number links checksum : ℕ) (form : List ℕ) → length form ≤ 192 → HasShortSize (inode_bytes (short_numbers number links (length form)) form checksum)
+short_size number links checksum form l =
+    let core = short_numbers number links (length form) in
     let forks = from_forks form in
     omega (arith, size core checksum form (omega arith), ap length (data_fork core checksum form), length-take 192 forks, length-append form (drop (176 + length form) blank_inode))
 
-pub small_directory : (inode : List ℕ) (number : ℕ) (form : List ℕ) → IsInodeSpelled inode (short_numbers number (length form)) form → HasChecksum inode 100 → length form ≤ 192 → number < 2 ^ 64
-    → IsSmallDirectory inode number form
-small_directory inode number form spelled h l small =
+pub small_directory : (inode : List ℕ) (number links : ℕ) (form : List ℕ) → IsInodeSpelled inode (short_numbers number links (length form)) form → HasChecksum inode 100 → length form ≤ 192 → number < 2 ^ 64 → links < 2 ^ 32
+    → IsSmallDirectory inode number links form
+small_directory inode number links form spelled h l small few =
     let checksum = spelled.0 in
-    let core = short_numbers number (length form) in
-    let P : List ℕ → Type 0 = λ (xs : List ℕ). IsSmallDirectory xs number form in
+    let core = short_numbers number links (length form) in
+    let P : List ℕ → Type 0 = λ (xs : List ℕ). IsSmallDirectory xs number links form in
     let Q : List ℕ → Type 0 = λ (xs : List ℕ). HasChecksum xs 100 in
     subst P (sym spelled.1) (record {
       core = has_core core checksum form l small (subst Q spelled.1 h);
-      fields = short_fields number checksum form l;
-      forks = short_forks number checksum form l;
-      size = short_size number checksum form l;
-      short_bytes = short_bytes number checksum form l;
+      fields = short_fields number links checksum form l few;
+      forks = short_forks number links checksum form l;
+      size = short_size number links checksum form l;
+      short_bytes = short_bytes number links checksum form l;
       attributes = attributes core checksum form l;
     })
 

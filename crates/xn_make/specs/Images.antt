@@ -40,13 +40,13 @@ pub record IsSmallSuperblock (bytes : List ℕ) : Type 0 where
   pub geometry : geometry_of bytes ≡ small_geometry
   pub features : number_at 4 216 bytes ≡ ftype_bit + parent_bit
 
--- what the core says of a directory whose short form has so many bytes: two links, no blocks, its first generation, and
--- both forks in the inode, the second 192 bytes behind the first
-abbrev pub directory_core : ℕ → CoreFields
-directory_core size = record {
+-- what the core says of a directory with so many links whose short form has so many bytes: no blocks, its first
+-- generation, and both forks in the inode, the second 192 bytes behind the first
+abbrev pub directory_core : ℕ → ℕ → CoreFields
+directory_core links size = record {
   kind = Dir;
   permissions = 0;
-  nlink = 2;
+  nlink = links;
   size = size;
   nblocks = 0;
   generation = 1;
@@ -58,10 +58,10 @@ directory_core size = record {
   attr_extents = 0;
 }
 
--- a directory's inode with that short form, and with no attributes
-pub record IsSmallDirectory (inode : List ℕ) (number : ℕ) (form : List ℕ) : Type 0 where
+-- a directory's inode with so many links and that short form, and with no attributes
+pub record IsSmallDirectory (inode : List ℕ) (number links : ℕ) (form : List ℕ) : Type 0 where
   pub core : HasCore inode number small_uuid
-  pub fields : CoreHolds inode (directory_core (length form))
+  pub fields : CoreHolds inode (directory_core links (length form))
   pub forks : HasForks inode
   pub size : HasShortSize inode
   pub short_bytes : short_bytes_of inode ≡ form
@@ -126,7 +126,7 @@ pub record IsBlank (image : List ℕ) (sectors : ℕ) : Type 0 where
 pub record IsSmallImage (image form : List ℕ) : Type 0 where
   pub whole : length image ≡ 512 * small_sectors
   pub superblock : IsSmallSuperblock (sector_of image 0)
-  pub root : IsSmallDirectory (sector_of image 128) 128 form
+  pub root : IsSmallDirectory (sector_of image 128) 128 2 form
   pub zeros : (sector : ℕ) → sector < small_sectors → sector ≢ 0 → sector ≢ 128 → sector_of image sector ≡ replicate 512 0
 
 -- the entry of a regular file
@@ -170,15 +170,15 @@ empty_form = 0 ∷ 0 ∷ 0 ∷ 0 ∷ 0 ∷ 128 ∷ []
 pub record HasInodes (old new : List ℕ) : Type 0 where
   pub superblock : sector_of new 0 ≡ sector_of old 0
   pub root : IsBlockDirectoryInode (sector_of new 128) 128 40
-  pub detached : IsSmallDirectory (sector_of new 129) 129 empty_form
+  pub detached : IsSmallDirectory (sector_of new 129) 129 0 empty_form
   pub files : (number : ℕ) → 144 ≤ number → number < 155 → IsSmallRegular (sector_of new number) number
 
 -- The image in block form: its superblock, its root directory in block 40, whose one block has a leaf entry for each of
--- the eleven entries that name regular files, `.` and `..`; these files; and a directory that no entry names.
+-- the eleven entries that name regular files, `.` and `..`; these files; and a directory without a link that no entry names.
 pub record IsBlockImage (image : List ℕ) : Type 0 where
   pub whole : length image ≡ 512 * small_sectors
   pub superblock : IsSmallSuperblock (sector_of image 0)
   pub root : IsBlockDirectoryInode (sector_of image 128) 128 40
-  pub detached : IsSmallDirectory (sector_of image 129) 129 empty_form
+  pub detached : IsSmallDirectory (sector_of image 129) 129 0 empty_form
   pub files : (number : ℕ) → 144 ≤ number → number < 155 → IsSmallRegular (sector_of image number) number
   pub block : IsRootBlock (slice_range image 163840 167936)

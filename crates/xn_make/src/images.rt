@@ -90,7 +90,7 @@ pub fn image(alloc: Global, form: &[u8]) -> Result<Vec<u8>, Memory>
 }
 
 /// The whole image whose root directory is in block form, in block 40, and names the regular files 144 to 154
-/// `entry-0001` to `entry-0011`. Inode 129 is an empty directory that no entry names. Fails only for want of memory.
+/// `entry-0001` to `entry-0011`. Inode 129 is an empty directory without a link, which no entry names. Fails only for want of memory.
 pub fn block_image(alloc: Global) -> Result<Vec<u8>, Memory>
     ensures { IfOk result (λ image. IsBlockImage image.items) }
 {
@@ -120,7 +120,11 @@ fn put_inodes(image: &mut [u8])
 {
     let root = directory_in_block(ROOT, DIRECTORY_BLOCK);
     put_sector(image, ROOT_SECTOR as usize, &root);
-    put_sector(image, DETACHED as usize, &directory_inode(DETACHED, &EMPTY));
+    put_sector(
+        image,
+        DETACHED as usize,
+        &directory_inode(DETACHED, 0, &EMPTY),
+    );
     put_files(image);
 }
 
@@ -143,7 +147,7 @@ fn fill(image: &mut [u8], form: &[u8])
     ensures length { length image.new ≡ length image.old }
 {
     put_sector(image, 0, &superblock());
-    put_sector(image, ROOT_SECTOR as usize, &directory_inode(ROOT, form));
+    put_sector(image, ROOT_SECTOR as usize, &directory_inode(ROOT, 2, form));
 }
 
 /// So many sectors of zeros.

@@ -45,17 +45,17 @@ struct CoreNumbers {
     generation: u32,
 }
 
-/// The inode of a directory with this number: two links, this short form in its data fork, and an attribute fork with
-/// no attribute.
-pub fn directory_inode(number: u64, form: &[u8]) -> [u8; 512]
+/// The inode of a directory with this number: so many links, this short form in its data fork, and an attribute fork
+/// with no attribute.
+pub fn directory_inode(number: u64, links: u32, form: &[u8]) -> [u8; 512]
     requires { length form.now ≤ DATA_FORK }
-    ensures { IsSmallDirectory result number form.now }
+    ensures { IsSmallDirectory result number links form.now }
 {
     let core = CoreNumbers {
         number,
         mode: DIRECTORY,
         format: LOCAL,
-        links: 2,
+        links,
         size: form.len() as u64,
         block_count: 0,
         extent_count: 0,

@@ -1,14 +1,14 @@
 -- A sector of the image that is shown is the kept one, where one is kept.
-use Rattle.std.proofs.Common.{◌≡◌, ◌≢◌, ◌⊎◌, inl, inr, ℕ, ◌+◌, ◌*◌, ◌<◌, true, false, List, [], ◌∷◌, length, refl, sym, ◌∙◌, arith}
+use Rattle.std.proofs.Common.{◌≡◌, ◌≢◌, ◌⊎◌, inl, inr, ℕ, ◌*◌, ◌<◌, true, false, List, [], ◌∷◌, length, refl, ◌∙◌, arith}
 use Rattle.std.specs.Prelude.{unwrap_or}
 use Rattle.std.specs.Ordering.{nat_cmp}
 use Rattle.std.specs.Map.{keys_of, values_of}
 use Rattle.std.specs.BTreeMap.{is_at}
-use Rattle.std.proofs.lemmas.Bool.{cases_eq, cases_lt}
+use Rattle.std.proofs.lemmas.Bool.{cases_eq}
 use Rattle.std.proofs.lemmas.Bool.Decides.{nat_tests}
 use Rattle.std.proofs.lemmas.List.Elements.{All-head, All-tail}
-use Rattle.xn_bytes.specs.Numbers.{overlaid, sector_of}
-use Rattle.xn_bytes.proofs.Overlays.{length-overlaid, slice_range-overlaid-there, slice_range-overlaid-apart}
+use Rattle.xn_bytes.specs.Numbers.{sector_of}
+use Rattle.xn_bytes.proofs.Overlays.{length-overlaid, sector_of-overlaid-there, sector_of-overlaid-apart}
 use Rattle.xn_replay.specs.Overlay.{shown, kept_at, AreKept}
 
 -- whether a look-up for one number finds another
@@ -29,16 +29,6 @@ length-shown sectors image (e ∷ es) long all =
     let whole : length e.1 ≡ 512 = All-head (λ bytes. length bytes ≡ 512) e.1 (values_of es) all.whole in
     length-overlaid (shown image es) (512 * e.0) e.1 (omega arith) ∙ rest
 
--- one more sector that is laid over
-pub sector_of-overlaid-there : (xs : List ℕ) (sectors k : ℕ) (bytes : List ℕ) → length xs ≡ 512 * sectors → k < sectors → length bytes ≡ 512 → sector_of (overlaid xs (512 * k) bytes) k ≡ bytes
-sector_of-overlaid-there xs sectors k bytes long low whole =
-    slice_range-overlaid-there xs (512 * k) bytes (512 * k + 512) (omega arith) (omega arith)
-
-pub sector_of-overlaid-apart : (xs : List ℕ) (sectors k q : ℕ) (bytes : List ℕ) → length xs ≡ 512 * sectors → k < sectors → q < sectors → length bytes ≡ 512 → k ≢ q → sector_of (overlaid xs (512 * k) bytes) q ≡ sector_of xs q
-sector_of-overlaid-apart xs sectors k q bytes long low there whole apart =
-    slice_range-overlaid-apart xs (512 * k) bytes (512 * q) (512 * q + 512) (omega arith) (omega arith)
-    (elim (cases_lt q k) [ inl below ↦ inl (omega arith) | inr above ↦ inr (omega arith) ])
-
 pub sector_of-shown : (sectors : ℕ) (image : List ℕ) (kept : List (ℕ × List ℕ)) → length image ≡ 512 * sectors → AreKept sectors kept → (q : ℕ) → q < sectors → sector_of (shown image kept) q ≡ unwrap_or (kept_at kept q) (sector_of image q)
 sector_of-shown sectors image [] long all q low = refl
 sector_of-shown sectors image (e ∷ es) long all q low =
@@ -48,6 +38,6 @@ sector_of-shown sectors image (e ∷ es) long all q low =
     let within : e.0 < sectors = All-head (λ sector. sector < sectors) e.0 (keys_of es) all.within in
     let whole : length e.1 ≡ 512 = All-head (λ bytes. length bytes ≡ 512) e.1 (values_of es) all.whole in
     elim (tied q e.0) [
-      | inl here ↦ rw (here.1, here.0) (sector_of-overlaid-there (shown image es) sectors e.0 e.1 len within whole)
-      | inr apart ↦ rw apart.1 (sector_of-overlaid-apart (shown image es) sectors e.0 q e.1 len within low whole (λ same. apart.0 (sym same)) ∙ rest)
+      | inl here ↦ rw (here.1, here.0) (sector_of-overlaid-there (shown image es) e.0 e.1 whole (omega arith))
+      | inr apart ↦ rw apart.1 (sector_of-overlaid-apart (shown image es) e.0 e.1 q whole (omega arith) apart.0 (omega arith) ∙ rest)
     ]

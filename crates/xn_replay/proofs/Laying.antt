@@ -6,9 +6,9 @@ use Rattle.std.specs.Ordering.{nat_cmp}
 use Rattle.std.specs.BTreeMap.{is_at, insert_entry}
 use Rattle.std.proofs.lemmas.Map.Views.{All-keys-insert_entry, All-values-insert_entry}
 use Rattle.xn_bytes.specs.Numbers.{overlaid, sector_of}
-use Rattle.xn_bytes.proofs.Overlays.{length-overlaid, overlaid-append, overlaid-nothing, same_by_pieces}
+use Rattle.xn_bytes.proofs.Overlays.{length-overlaid, overlaid-append, overlaid-nothing, same_by_pieces, sector_of-overlaid-there, sector_of-overlaid-apart}
 use Rattle.xn_replay.specs.Overlay.{shown, kept_at, AreKept, LaysOver}
-use Rattle.xn_replay.proofs.Kept.{tied, length-shown, sector_of-shown, sector_of-overlaid-there, sector_of-overlaid-apart}
+use Rattle.xn_replay.proofs.Kept.{tied, length-shown, sector_of-shown}
 
 inserted_kept : (old : List (ℕ × List ℕ)) (k : ℕ) (bytes : List ℕ) → length bytes ≡ 512 → (sectors : ℕ) → k < sectors → AreKept sectors old → AreKept sectors (insert_entry nat_cmp old k bytes)
 inserted_kept old k bytes whole sectors within all = record {
@@ -33,11 +33,11 @@ inserted_shown old new k bytes whole found sectors image long within was is =
     ∙ elim (tied k q) [
       | inl here ↦
           ap (λ b. unwrap_or (cond b (Some bytes) (kept_at old q)) (sector_of image q)) here.1
-          ∙ subst (λ n. bytes ≡ sector_of (overlaid (shown image old) (512 * k) bytes) n) here.0 (sym (sector_of-overlaid-there (shown image old) sectors k bytes len within whole))
+          ∙ subst (λ n. bytes ≡ sector_of (overlaid (shown image old) (512 * k) bytes) n) here.0 (sym (sector_of-overlaid-there (shown image old) k bytes whole (omega arith)))
       | inr apart ↦
           ap (λ b. unwrap_or (cond b (Some bytes) (kept_at old q)) (sector_of image q)) apart.1
           ∙ sym before
-          ∙ sym (sector_of-overlaid-apart (shown image old) sectors k q bytes len within low whole apart.0)
+          ∙ sym (sector_of-overlaid-apart (shown image old) k bytes q whole (omega arith) (λ same. apart.0 (sym same)) (omega arith))
     ])
 
 -- a sector that is inserted

@@ -116,7 +116,7 @@ fn reads_the_home_sectors(rt: HostRuntime) -> Result<(), Fail> {
     };
     assert_eq!(rt; seen.block(ROOT_BLOCK, &mut block), Ok(()));
     let mut wanted = [0; 4096];
-    wanted[..512].copy_from_slice(&directory_inode(ROOT, b""));
+    wanted[..512].copy_from_slice(&directory_inode(ROOT, 2, b""));
     assert_eq!(rt; block.as_slice(), wanted.as_slice());
     assert_eq!(rt; seen.block(ROOT_BLOCK, &mut block), Err(StoreFault::Read));
     Ok(())
