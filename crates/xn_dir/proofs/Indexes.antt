@@ -1,18 +1,22 @@
 -- The leaf entries of a block against its entries: that they are the same, and that a look-up by hash finds what a walk
 -- over the entries would.
-use Rattle.std.proofs.Common.{◌≡◌, ◌≢◌, ℕ, zero, suc, ◌+◌, ◌-◌, ◌*◌, ◌/◌, ◌%◌, ◌≤◌, Bool, true, false, List, [], ◌∷◌, length, get_or, map, sym, ap, subst, ◌∙◌, arith, inl, inr}
-use Rattle.std.specs.Prelude.{◌==◌, All, Contains, filter, not}
+use Rattle.std.proofs.Common.{◌≡◌, ◌≢◌, ℕ, zero, suc, ◌+◌, ◌-◌, ◌*◌, ◌/◌, ◌%◌, ◌≤◌, Bool, true, false, List, [], ◌∷◌, length, get_or, map, sym, ap, subst, ◌∙◌, arith, inl, inr, refl, Option, Some, None, Result, Ok, Err}
+use Rattle.std.specs.Prelude.{◌⊎◌, ◌==◌, All, Contains, filter, not, IfOk, IfSome}
 use Rattle.std.proofs.lemmas.Bool.{eq-eqb}
 use Rattle.std.proofs.lemmas.Bool.Decides.{eqb_tells}
 use Rattle.std.proofs.lemmas.List.{length-map}
-use Rattle.std.proofs.lemmas.List.Elements.{Contains-get_or}
+use Rattle.std.proofs.lemmas.List.Elements.{Contains-get_or, All-contains}
 use Rattle.std.proofs.lemmas.List.Sorted.{IsPermutation-sym, length_permutation, Contains-permutation}
 use Rattle.xn_bytes.specs.Names.{IsName}
 use Rattle.xn_bytes.specs.Hashes.{name_hash_of}
 use Rattle.xn_bytes.specs.Entries.{Entry, data_entry_length}
 use Rattle.xn_bytes.specs.DataBlock.{DataForm, LeafEntry, entries_among}
-use Rattle.xn_bytes.specs.DirectoryForms.{AreSorted, HasTail, HasDots, IsIndexOf, is_stale, leaf_of}
+use Rattle.xn_bytes.specs.Superblock.{Geometry}
+use Rattle.xn_bytes.specs.DirectoryForms.{AreSorted, HasTail, HasDots, HoldsFirst, IsIndexOf, is_stale, leaf_of}
 use Rattle.xn_data.specs.Standing.{ArePlaced}
+use Rattle.xn_inode.specs.declared.fork_fault.ForkFault.{ForkFault}
+use Rattle.xn_dir.specs.declared.entry.Entry as found
+use Rattle.xn_dir.specs.Finding.{HasPlace, Misses, AllMiss, Finds, StandsInFirst}
 use Rattle.xn_dir.proofs.Members.{behind_front, front_or_behind, in_none, in_filter, of_filter, in_map, of_map, AreDifferent, as_many}
 use Rattle.xn_dir.proofs.Tails.{live_count}
 
@@ -56,6 +60,28 @@ apart first end entries step placed within =
     let behind = placed_at (first.position + data_entry_length (length first.name)) end entries other.0 placed other.1 in
     let same : other.0.position / 8 ≡ first.position / 8 = ap (λ (leaf : LeafEntry). leaf.address) other.2 in
     omega (arith, behind.0, behind.1, same, step)
+
+-- one entry stands in a place
+one_placed : (at end : ℕ) (entries : List Entry) (a b : Entry) → ArePlaced at end entries → Contains entries a → Contains entries b → a.position ≡ b.position → a ≡ b
+one_placed at end [] a b placed of_a of_b same = absurd (in_none a of_a)
+one_placed at end (first ∷ entries) a b placed of_a of_b same =
+    let next : ℕ = first.position + data_entry_length (length first.name) in
+    elim (front_or_behind first a entries of_a) [
+      | inl is_a ↦ elim (front_or_behind first b entries of_b) [
+        | inl is_b ↦ sym is_a ∙ is_b
+        | inr behind ↦
+            let low = placed_at next end entries b placed.2 behind in
+            let at_first : first.position ≡ b.position = ap (λ (e : Entry). e.position) is_a ∙ same in
+            absurd (omega (arith, low.0, at_first))
+      ]
+      | inr behind ↦ elim (front_or_behind first b entries of_b) [
+        | inl is_b ↦
+            let low = placed_at next end entries a placed.2 behind in
+            let at_first : first.position ≡ a.position = ap (λ (e : Entry). e.position) is_b ∙ sym same in
+            absurd (omega (arith, low.0, at_first))
+        | inr both ↦ one_placed next end entries a b placed.2 behind both same
+      ]
+    ]
 
 different : (at end : ℕ) (entries : List Entry) → ArePlaced at end entries → AreDifferent (map leaf_of entries)
 different at end [] placed = tt
@@ -139,16 +165,14 @@ entry_of_leaf form leaf placed index within live =
 
 pub record Looks (form : DataForm) (name : List ℕ) (left : List LeafEntry) : Type 0 where
   pub among : All (λ leaf. (leaf.hash ≡ name_hash_of name) × Contains form.leaves leaf) left
-  pub kept : AreSorted form.leaves → (entry : Entry) → Contains (entries_among form.regions) entry → entry.name ≡ name → Contains (live_of form.leaves) (leaf_of entry) → Contains left (leaf_of entry)
+  pub passed : AreSorted form.leaves → (leaf : LeafEntry) → Contains form.leaves leaf → leaf.hash ≡ name_hash_of name → Contains left leaf ⊎ Misses name (entries_among form.regions) leaf
 
 pub looks_first : (form : DataForm) (name : List ℕ) (hash : ℕ) (left : List LeafEntry) → hash ≡ name_hash_of name → (AreSorted form.leaves → left ≡ filter (λ leaf. leaf.hash == hash) form.leaves)
     → All (λ leaf. (leaf.hash ≡ hash) × Contains form.leaves leaf) left → Looks form name left
 looks_first form name hash left hash_is rising always = record {
   among = λ k d below. let found = always k d below in (found.0 ∙ hash_is, found.1);
-  kept = λ sorted entry within named live.
-      let same : name_hash_of entry.name ≡ hash = ap name_hash_of named ∙ sym hash_is in
-      subst (λ (xs : List LeafEntry). Contains xs (leaf_of entry)) (sym (rising sorted))
-      (in_filter (λ leaf. leaf.hash == hash) form.leaves (leaf_of entry) (eq-eqb (name_hash_of entry.name) hash same) (of_filter (λ leaf. not (is_stale leaf)) form.leaves (leaf_of entry) live).0);
+  passed = λ sorted leaf within of_hash.
+      inl (subst (λ (xs : List LeafEntry). Contains xs leaf) (sym (rising sorted)) (in_filter (λ one. one.hash == hash) form.leaves leaf (eq-eqb leaf.hash hash (of_hash ∙ sym hash_is)) within));
 }
 
 -- the leaf entry in front, which is among the block's
@@ -157,45 +181,33 @@ front_leaf form name leaf left after step looks =
     let among : All (λ one. (one.hash ≡ name_hash_of name) × Contains form.leaves one) (leaf ∷ after) = subst (All (λ one. (one.hash ≡ name_hash_of name) × Contains form.leaves one)) step looks.among in
     (among 0 leaf (omega arith)).1
 
-looks_past : (form : DataForm) (name : List ℕ) (leaf : LeafEntry) (left after : List LeafEntry) → left ≡ leaf ∷ after
-    → ((entry : Entry) → Contains (entries_among form.regions) entry → entry.name ≡ name → Contains (live_of form.leaves) (leaf_of entry) → leaf ≡ leaf_of entry → ⊥)
-    → Looks form name left → Looks form name after
-looks_past form name leaf left after step other looks =
+looks_past : (form : DataForm) (name : List ℕ) (leaf : LeafEntry) (left after : List LeafEntry) → left ≡ leaf ∷ after → Misses name (entries_among form.regions) leaf → Looks form name left → Looks form name after
+looks_past form name leaf left after step misses looks =
     let among : All (λ one. (one.hash ≡ name_hash_of name) × Contains form.leaves one) (leaf ∷ after) = subst (All (λ one. (one.hash ≡ name_hash_of name) × Contains form.leaves one)) step looks.among in
     record {
       among = λ k d below. among (suc k) d (omega (arith, below));
-      kept = λ sorted entry within named live.
-          elim (front_or_behind leaf (leaf_of entry) after (subst (λ (xs : List LeafEntry). Contains xs (leaf_of entry)) step (looks.kept sorted entry within named live))) [
-            | inl same ↦ absurd (other entry within named live same)
-            | inr behind ↦ behind
-          ];
+      passed = λ sorted one within of_hash. elim (looks.passed sorted one within of_hash) [
+        | inl still ↦ elim (front_or_behind leaf one after (subst (λ (xs : List LeafEntry). Contains xs one) step still)) [
+          | inl same ↦ inr (subst (Misses name (entries_among form.regions)) same misses)
+          | inr behind ↦ inl behind
+        ]
+        | inr before ↦ inr before
+      ];
     }
 
 -- a stale one is that of no entry
 pub past_stale : (form : DataForm) (name : List ℕ) (leaf : LeafEntry) (left after : List LeafEntry) → left ≡ leaf ∷ after → leaf.address ≡ 0 → Looks form name left → Looks form name after
-past_stale form name leaf left after step stale looks =
-    looks_past form name leaf left after step
-    (λ entry within named live same.
-    let alive = (of_filter (λ one. not (is_stale one)) form.leaves (leaf_of entry) live).1 in
-    let dead : is_stale (leaf_of entry) ≡ true = eq-eqb (entry.position / 8) 0 (ap (λ (one : LeafEntry). one.address) (sym same) ∙ stale) in
-    both_not (is_stale (leaf_of entry)) dead alive)
-    looks
+past_stale form name leaf left after step stale looks = looks_past form name leaf left after step (inl stale) looks
 
 -- no entry stands where the leaf entry says
 pub no_entry : (form : DataForm) (leaf : LeafEntry) → ArePlaced 64 4096 (entries_among form.regions) → Contains form.leaves leaf → leaf.address ≢ 0
-    → ((entry : Entry) → Contains (entries_among form.regions) entry → entry.position ≡ leaf.address * 8 → ⊥) → IsIndexOf form.leaves (entries_among form.regions) → ⊥
-no_entry form leaf placed within live nowhere index = let found = entry_of_leaf form leaf placed index within live in nowhere found.0 found.1 found.2
+    → (HasPlace (entries_among form.regions) (leaf.address * 8) → ⊥) → IsIndexOf form.leaves (entries_among form.regions) → ⊥
+no_entry form leaf placed within live nowhere index = let found = entry_of_leaf form leaf placed index within live in nowhere (found.0, found.1, found.2)
 
 -- the entry that stands there has another name
-pub past_other : (form : DataForm) (name : List ℕ) (leaf : LeafEntry) (left after : List LeafEntry) (found : Entry) → left ≡ leaf ∷ after → ArePlaced 64 4096 (entries_among form.regions)
-    → ((entry : Entry) → Contains (entries_among form.regions) entry → entry.position ≡ leaf.address * 8 → found ≡ entry) → (found.name ≡ name → ⊥) → Looks form name left → Looks form name after
-past_other form name leaf left after found step placed there other looks =
-    looks_past form name leaf left after step
-    (λ entry within named live same.
-    let address : leaf.address ≡ entry.position / 8 = ap (λ (one : LeafEntry). one.address) same in
-    let at = placed_at 64 4096 (entries_among form.regions) entry placed within in
-    other (ap (λ (e : Entry). e.name) (there entry within (omega (arith, address, at.1))) ∙ named))
-    looks
+pub past_other : (form : DataForm) (name : List ℕ) (leaf : LeafEntry) (left after : List LeafEntry) (found : Entry) → left ≡ leaf ∷ after → Contains (entries_among form.regions) found → found.position ≡ leaf.address * 8
+    → (found.name ≡ name → ⊥) → Looks form name left → Looks form name after
+past_other form name leaf left after found step within at other looks = looks_past form name leaf left after step (inr (found, within, at, other)) looks
 
 -- an entry with a name is none of dot and dotdot
 behind_dots : (all entries : List Entry) (dotdot : ℕ) (entry : Entry) → HasDots all entries dotdot → IsName entry.name → Contains all entry → Contains entries entry
@@ -209,22 +221,55 @@ behind_dots all entries dotdot entry dots named within =
     ]
 
 -- the entry that stands there has the name
-pub looks_found : (form : DataForm) (name : List ℕ) (leaf : LeafEntry) (found : Entry) (entries : List Entry) (dotdot : ℕ) → ArePlaced 64 4096 (entries_among form.regions) → Contains form.leaves leaf → leaf.address ≢ 0
-    → ((entry : Entry) → Contains (entries_among form.regions) entry → entry.position ≡ leaf.address * 8 → found ≡ entry) → found.name ≡ name → IsName name
-    → HasDots (entries_among form.regions) entries dotdot → IsIndexOf form.leaves (entries_among form.regions) → Contains entries (record { name = name; ino = found.ino; kind = found.kind; position = found.position })
-looks_found form name leaf found entries dotdot placed within live there same named dots index =
-    let entry = entry_of_leaf form leaf placed index within live in
-    let is : found ≡ entry.0 = there entry.0 entry.1 entry.2 in
-    let here : Contains (entries_among form.regions) found = subst (Contains (entries_among form.regions)) (sym is) entry.1 in
-    let behind : Contains entries found = behind_dots (entries_among form.regions) entries dotdot found dots (subst IsName (sym same) named) here in
+pub stands_found : (form : DataForm) (name : List ℕ) (found : Entry) → Contains (entries_among form.regions) found → found.name ≡ name → IsName name
+    → (entries : List Entry) (dotdot : ℕ) → HasDots (entries_among form.regions) entries dotdot → Contains entries (record { name = name; ino = found.ino; kind = found.kind; position = found.position })
+stands_found form name found within same named entries dotdot dots =
+    let behind : Contains entries found = behind_dots (entries_among form.regions) entries dotdot found dots (subst IsName (sym same) named) within in
     subst (Contains entries) (ap (λ (n : List ℕ). record found { name = n }) same) behind
 
 -- no leaf entry of the hash is left
-pub looks_none : (form : DataForm) (name : List ℕ) (left : List LeafEntry) (entries : List Entry) (dotdot : ℕ) → left ≡ [] → Looks form name left → HasDots (entries_among form.regions) entries dotdot → HasTail form
+pub looks_none : (form : DataForm) (name : List ℕ) (left : List LeafEntry) → left ≡ [] → Looks form name left → AreSorted form.leaves → AllMiss name form
+looks_none form name left done looks sorted k d below of_hash =
+    let leaf : LeafEntry = get_or form.leaves k d in
+    elim (looks.passed sorted leaf (Contains-get_or form.leaves k d below) of_hash) [
+      | inl still ↦ absurd (in_none leaf (subst (λ (xs : List LeafEntry). Contains xs leaf) done still))
+      | inr misses ↦ misses
+    ]
+
+-- where the leaf entries are those of the entries, none of these has the name
+pub none_named : (form : DataForm) (name : List ℕ) (entries : List Entry) (dotdot : ℕ) → ArePlaced 64 4096 (entries_among form.regions) → AllMiss name form → HasDots (entries_among form.regions) entries dotdot
     → IsIndexOf form.leaves (entries_among form.regions) → All (λ entry. entry.name ≢ name) entries
-looks_none form name left entries dotdot done looks dots tail index k d below same =
+none_named form name entries dotdot placed all_miss dots index k d below same =
     let all : List Entry = entries_among form.regions in
     let entry : Entry = get_or entries k d in
     let within : Contains all entry = subst (λ (es : List Entry). Contains es entry) (sym dots.first) (behind_front dots.dot entry (dots.parent ∷ entries) (behind_front dots.parent entry entries (Contains-get_or entries k d below))) in
     let live : Contains (live_of form.leaves) (leaf_of entry) = Contains-permutation (map leaf_of all) (live_of form.leaves) (leaf_of entry) index (in_map leaf_of all entry within) in
-    in_none (leaf_of entry) (subst (λ (xs : List LeafEntry). Contains xs (leaf_of entry)) done (looks.kept tail.sorted entry within same live))
+    let leaf = of_filter (λ one. not (is_stale one)) form.leaves (leaf_of entry) live in
+    let place = placed_at 64 4096 all entry placed within in
+    elim (All-contains (λ one. one.hash ≡ name_hash_of name → Misses name all one) form.leaves (leaf_of entry) all_miss leaf.0 (ap name_hash_of same)) [
+      | inl stale ↦ omega (arith, stale, place.0)
+      | inr other ↦ other.3 (ap (λ (e : Entry). e.name) (one_placed 64 4096 all other.0 entry placed other.1 within (omega (arith, other.2, place.1))) ∙ same)
+    ]
+
+-- what a look-up finds in a block rests on the entries that stand there
+pub stands_first : (g : Geometry) (dir block : ℕ) (bytes name : List ℕ) (form : DataForm) (entries : List Entry) (dotdot : ℕ) (result : Result (Option found.Entry) ForkFault) → HoldsFirst g dir block bytes form entries dotdot
+    → ArePlaced 64 4096 (entries_among form.regions)
+    → IfOk result (λ one. IfSome one (λ entry. (others : List Entry) (parent : ℕ) → HasDots (entries_among form.regions) others parent → Finds name others (Some entry)))
+    → IfOk result (λ one. one ≡ None → AreSorted form.leaves → AllMiss name form) → IfOk result (λ one. StandsInFirst g dir block bytes name one)
+stands_first g dir block bytes name form entries dotdot (Err fault) first placed there none = tt
+stands_first g dir block bytes name form entries dotdot (Ok None) first placed there none = record {
+  form = form;
+  entries = entries;
+  dotdot = dotdot;
+  first = first;
+  there = tt;
+  indexed = λ sorted index. none_named form name entries dotdot placed (none refl sorted) first.dots index;
+}
+stands_first g dir block bytes name form entries dotdot (Ok (Some entry)) first placed there none = record {
+  form = form;
+  entries = entries;
+  dotdot = dotdot;
+  first = first;
+  there = there entries dotdot first.dots;
+  indexed = λ _ _. there entries dotdot first.dots;
+}

@@ -6,6 +6,8 @@ pub mod ShortForms
 pub mod Members
 pub mod Tails
 pub mod Leaves
+pub mod Places
 pub mod Indexes
 pub mod FirstBlocks
+pub mod OneForm
 pub mod OverImages

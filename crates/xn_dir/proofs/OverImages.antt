@@ -1,24 +1,28 @@
 -- From the bytes of an inode and a block to the image that shows them.
-use Rattle.std.proofs.Common.{◌≡◌, ◌≢◌, ℕ, suc, ◌+◌, ◌*◌, true, List, [], ◌∷◌, Option, Some, None, refl, sym, ap, subst, ◌∙◌, arith, inl, inr}
+use Rattle.std.proofs.Common.{◌≡◌, ◌≢◌, ℕ, suc, ◌+◌, ◌*◌, List, [], ◌∷◌, Option, Some, None, refl, sym, ap, subst, ◌∙◌, arith, inl, inr}
 use Rattle.std.specs.Prelude.{◌-◌, IfSome, IsSome}
 use Rattle.std.proofs.lemmas.Bool.{cases_lt, cases_eq}
 use Rattle.std.proofs.lemmas.Grind.{common_steps}
 use Rattle.std.proofs.lemmas.Bool.Decides.{nat_tests}
-use Rattle.xn_bytes.specs.Numbers.{number_at}
 use Rattle.xn_bytes.specs.Superblock.{Geometry, IsBlock}
 use Rattle.xn_bytes.specs.Blocks.{block_of, IsHome}
-use Rattle.xn_bytes.specs.Inode.{CoreFields, inode_of, local_format, extents_format}
+use Rattle.xn_bytes.specs.Inode.{CoreFields, inode_of}
 use Rattle.xn_bytes.specs.Extents.{Run, mapped, end_of_run}
 use Rattle.xn_bytes.specs.Entries as held
-use Rattle.xn_bytes.specs.DataBlock.{DataForm, entries_among}
-use Rattle.xn_bytes.specs.DirectoryForms.{AreHome, IsBlockForm, HasBlocksSize, data_runs_of, HoldsShort, HoldsFirst, HasTail, IsIndexOf, DirHolds, HasParent}
+use Rattle.xn_bytes.specs.DataBlock.{DataForm, DataHolds, entries_among}
+use Rattle.xn_bytes.specs.DirectoryForms.{AreHome, HasBlocksSize, data_runs_of, HoldsShort, HoldsFirst, HasTail, IsIndexOf, DirHolds, EntriesStand}
+use Rattle.xn_bytes.specs.DirectoryRules.{IsBuilt}
+use Rattle.xn_bytes.specs.ShortDirectory.{ShortForm, ShortHolds}
+use Rattle.xn_bytes.specs.Directory.{HasShortSize, short_bytes_of}
 use Rattle.xn_inode.specs.declared.fork_fault.ForkFault.{ForkFault}
 use Rattle.xn_inode.specs.declared.fork_fault.ForkFault.TheVariants.{Read, Memory, Broken, Unbuilt}
 use Rattle.xn_dir.specs.declared.entry.Entry.{Entry}
 use Rattle.xn_dir.specs.declared.form.Form.TheVariants as forms
 use Rattle.xn_dir.specs.Inodes.{IsDirectory, IsSoundInode, IsOfForm}
 use Rattle.xn_dir.specs.Faults.{IsFormFault, IsShortFault, IsFirstFault, IsFaultOver}
-use Rattle.xn_dir.specs.Finding.{Finds, FindsOver}
+use Rattle.xn_dir.specs.Finding.{Finds, StandsOver, StandsInFirst}
+use Rattle.xn_dir.proofs.ShortForms as short
+use Rattle.xn_dir.proofs.OneForm.{in_extents}
 
 -- ---- the block of block form
 
@@ -68,6 +72,18 @@ other_size g dir inode core block sound form other has =
       | inr later ↦ not_mapped (mapped (data_runs_of inode) has.0) (form.1.alone has.0 later) has.1.is_mapped
     ]
 
+-- ---- the form
+
+pub built_short : (g : Geometry) (dir : ℕ) (image : Option (List ℕ)) (inode : List ℕ) (core : CoreFields) → IfSome image (λ x. inode ≡ inode_of g x dir) → IsSoundInode g dir inode core → IsOfForm inode forms.Short
+    → IfSome image (λ x. IsBuilt g (inode_of g x dir) dir)
+built_short g dir None inode core same sound form = tt
+built_short g dir (Some x) inode core same sound form = rw (← same) (record { core = sound.sound; forks = sound.forks; lists = sound.lists; form = inl form })
+
+pub built_block : (g : Geometry) (dir : ℕ) (image : Option (List ℕ)) (inode : List ℕ) (core : CoreFields) (block : ℕ) → IfSome image (λ x. inode ≡ inode_of g x dir) → IsSoundInode g dir inode core
+    → IsOfForm inode (forms.Block block) → IfSome image (λ x. IsBuilt g (inode_of g x dir) dir)
+built_block g dir None inode core block same sound form = tt
+built_block g dir (Some x) inode core block same sound form = rw (← same) (record { core = sound.sound; forks = sound.forks; lists = sound.lists; form = inr (form.0, (block, form.1)) })
+
 -- ---- faults
 
 pub over_form : (g : Geometry) (dir : ℕ) (image : Option (List ℕ)) (inode : List ℕ) (before now : ℕ) (fault : ForkFault) → IfSome image (λ x. inode ≡ inode_of g x dir) → IfSome image (λ x. IsDirectory (inode_of g x dir))
@@ -89,9 +105,6 @@ over_short g dir None inode core before now (Broken rule block) same sound form 
 over_short g dir (Some x) inode core before now (Broken rule block) same sound form fault =
     rw (← same) (inr (sound.sound, inr (sound.forks, inr (sound.lists, inl (form, fault)))))
 over_short g dir image inode core before now Unbuilt same sound form fault = absurd fault
-
-in_extents : (inode : List ℕ) → number_at 1 5 inode ≡ extents_format → number_at 1 5 inode ≡ local_format → ⊥
-in_extents inode two one = omega (arith, two, one)
 
 pub over_size : (g : Geometry) (dir : ℕ) (image : Option (List ℕ)) (inode : List ℕ) (core : CoreFields) (block before now : ℕ) → IfSome image (λ x. inode ≡ inode_of g x dir) → IsSoundInode g dir inode core
     → IsOfForm inode (forms.Block block) → core.size ≢ 4096 → IsFaultOver g dir image before now (Broken 15 0)
@@ -134,55 +147,53 @@ holds_block g dir (Some x) inode bytes block entries same shown form size holds 
   })),
 )
 
-pub finds_short : (g : Geometry) (dir : ℕ) (image : Option (List ℕ)) (inode name : List ℕ) (found : Option Entry) → IfSome image (λ x. inode ≡ inode_of g x dir) → IsOfForm inode forms.Short
-    → ((entries : List held.Entry) (dotdot : ℕ) → HoldsShort inode entries dotdot → Finds name entries found) → IfSome image (λ x. FindsOver g x dir name found)
-finds_short g dir None inode name found same form finds = tt
-finds_short g dir (Some x) inode name found same form finds = λ entries dotdot holds. elim holds [
-  | inl short ↦ finds entries dotdot (rw (← same) at short)
-  | inr blocks ↦ elim blocks [
-    | inl one ↦ absurd (in_extents inode (rw (← same) at one.is_extents) form)
-    | inr many ↦ absurd (in_extents inode (rw (← same) at many.is_extents) form)
-  ]
-]
+-- ---- what stands in a directory
 
-same_block : (a b : ℕ) (o : Option ℕ) → o ≡ Some a → o ≡ Some b → a ≡ b
-same_block a b o is_a is_b = let e = sym is_a ∙ is_b in cc
+stand_short : (g : Geometry) (dir : ℕ) (x inode : List ℕ) (entries : List held.Entry) (dotdot : ℕ) → inode ≡ inode_of g x dir → HoldsShort inode entries dotdot → EntriesStand g x dir entries dotdot
+stand_short g dir x inode entries dotdot same holds = inl (rw same at holds)
 
-pub finds_block : (g : Geometry) (dir : ℕ) (image : Option (List ℕ)) (inode bytes name : List ℕ) (block : ℕ) (found : Option Entry) → IfSome image (λ x. inode ≡ inode_of g x dir) → IfSome image (λ x. bytes ≡ block_of g x block)
-    → IsOfForm inode (forms.Block block)
-    → ((form : DataForm) (entries : List held.Entry) (dotdot : ℕ) → HoldsFirst g dir block bytes form entries dotdot → HasTail form → IsIndexOf form.leaves (entries_among form.regions) → Finds name entries found)
-    → IfSome image (λ x. FindsOver g x dir name found)
-finds_block g dir None inode bytes name block found same shown form finds = tt
-finds_block g dir (Some x) inode bytes name block found same shown form finds = λ entries dotdot holds. elim holds [
-  | inl short ↦ absurd (in_extents inode form.0 (rw (← same) at short.is_local))
-  | inr blocks ↦ elim blocks [
-    | inl one ↦
-        let alone : IsBlockForm (data_runs_of inode) one.block = rw (← same) at one.alone in
-        let is : one.block ≡ block = same_block one.block block (mapped (data_runs_of inode) 0) alone.first form.1.first in
-        let first : HoldsFirst g dir block bytes one.form entries dotdot = rw shown (subst (λ (b : ℕ). HoldsFirst g dir b (block_of g x b) one.form entries dotdot) is one.first) in
-        finds one.form entries dotdot first one.tail one.index
-    | inr many ↦ absurd (many.not_alone block (rw same at form.1))
-  ]
-]
+stand_block : (g : Geometry) (dir : ℕ) (x inode bytes : List ℕ) (block : ℕ) (form : DataForm) (entries : List held.Entry) (dotdot : ℕ) → inode ≡ inode_of g x dir → bytes ≡ block_of g x block
+    → IsOfForm inode (forms.Block block) → HasBlocksSize inode → HoldsFirst g dir block bytes form entries dotdot → EntriesStand g x dir entries dotdot
+stand_block g dir x inode bytes block form entries dotdot same shown is size first =
+    let there : IsOfForm (inode_of g x dir) (forms.Block block) = rw same at is in
+    inr (block, form, there.0, there.1, rw same at size, rw shown at first)
+
+if_found : (name : List ℕ) (entries : List held.Entry) (found : Option Entry) → Finds name entries found → IfSome found (λ entry. Finds name entries (Some entry))
+if_found name entries None finds = tt
+if_found name entries (Some entry) finds = finds
+
+pub stands_short : (g : Geometry) (dir : ℕ) (image : Option (List ℕ)) (inode name : List ℕ) (found : Option Entry) → IfSome image (λ x. inode ≡ inode_of g x dir) → IsOfForm inode forms.Short
+    → (form : ShortForm) × HasShortSize inode × ShortHolds (short_bytes_of inode) form × Finds name form.entries found → IfSome image (λ x. StandsOver g x dir name found)
+stands_short g dir None inode name found same form finds = tt
+stands_short g dir (Some x) inode name found same form finds = record {
+  entries = finds.0.entries;
+  dotdot = finds.0.parent;
+  stand = stand_short g dir x inode finds.0.entries finds.0.parent same (short.holds_short inode finds.0 finds.0.entries finds.0.parent form (finds.1, finds.2) refl refl);
+  there = if_found name finds.0.entries found finds.3;
+  indexed = λ _. finds.3;
+}
+
+pub stands_block : (g : Geometry) (dir : ℕ) (image : Option (List ℕ)) (inode bytes name : List ℕ) (block : ℕ) (found : Option Entry) → IfSome image (λ x. inode ≡ inode_of g x dir) → IfSome image (λ x. bytes ≡ block_of g x block)
+    → IsOfForm inode (forms.Block block) → HasBlocksSize inode → StandsInFirst g dir block bytes name found → IfSome image (λ x. StandsOver g x dir name found)
+stands_block g dir None inode bytes name block found same shown form size stands = tt
+stands_block g dir (Some x) inode bytes name block found same shown form size stands =
+    let there : IsOfForm (inode_of g x dir) (forms.Block block) = rw same at form in
+    let holds : DataHolds (block_of g x block) stands.form = rw shown at stands.first.data_block.holds in
+    record {
+      entries = stands.entries;
+      dotdot = stands.dotdot;
+      stand = stand_block g dir x inode bytes block stands.form stands.entries stands.dotdot same shown form size stands.first;
+      there = stands.there;
+      indexed = λ index. let both = index block stands.form there.0 there.1 holds in stands.indexed both.0 both.1;
+    }
 
 pub parent_short : (g : Geometry) (dir : ℕ) (image : Option (List ℕ)) (inode : List ℕ) (dotdot : ℕ) → IfSome image (λ x. inode ≡ inode_of g x dir) → (entries : List held.Entry) × HoldsShort inode entries dotdot
-    → IfSome image (λ x. HasParent g dir (inode_of g x dir) (block_of g x) dotdot)
+    → IfSome image (λ x. (entries : List held.Entry) × EntriesStand g x dir entries dotdot)
 parent_short g dir None inode dotdot same holds = tt
-parent_short g dir (Some x) inode dotdot same holds = inl (holds.0, rw same at holds.1)
+parent_short g dir (Some x) inode dotdot same holds = (holds.0, stand_short g dir x inode holds.0 dotdot same holds.1)
 
 pub parent_block : (g : Geometry) (dir : ℕ) (image : Option (List ℕ)) (inode bytes : List ℕ) (block dotdot : ℕ) → IfSome image (λ x. inode ≡ inode_of g x dir) → IfSome image (λ x. bytes ≡ block_of g x block)
-    → IsOfForm inode (forms.Block block) → (form : DataForm) × (entries : List held.Entry) × HoldsFirst g dir block bytes form entries dotdot
-    → IfSome image (λ x. HasParent g dir (inode_of g x dir) (block_of g x) dotdot)
-parent_block g dir None inode bytes block dotdot same shown form holds = tt
-parent_block g dir (Some x) inode bytes block dotdot same shown form holds =
-    let first : HoldsFirst g dir block (block_of g x block) holds.0 holds.1 dotdot = rw shown at holds.2 in
-    inr (record {
-      is_extents = (rw same at form).0;
-      block = block;
-      first = (rw same at form).1.first;
-      is_block_form = true;
-      form = holds.0;
-      data_block = first.data_block;
-      others = holds.1;
-      dots = first.dots;
-    })
+    → IsOfForm inode (forms.Block block) → HasBlocksSize inode → (form : DataForm) × (entries : List held.Entry) × HoldsFirst g dir block bytes form entries dotdot
+    → IfSome image (λ x. (entries : List held.Entry) × EntriesStand g x dir entries dotdot)
+parent_block g dir None inode bytes block dotdot same shown form size holds = tt
+parent_block g dir (Some x) inode bytes block dotdot same shown form size holds = (holds.1, stand_block g dir x inode bytes block holds.0 holds.1 dotdot same shown form size holds.2)

@@ -1,5 +1,5 @@
 -- Directories in short form: what the inode's bytes spell is what the directory holds.
-use Rattle.std.proofs.Common.{◌≡◌, ℕ, List, ◌∷◌, refl, sym, ap, subst, ◌∙◌, inr, arith}
+use Rattle.std.proofs.Common.{◌≡◌, ℕ, List, ◌∷◌, refl, sym, ap, subst, inr, arith}
 use Rattle.std.specs.Prelude.{Contains}
 use Rattle.std.proofs.lemmas.List.Elements.{Contains-append_right}
 use Rattle.xn_bytes.specs.Numbers.{number_at}
@@ -23,10 +23,6 @@ holds_short inode short entries dotdot is_local form entries_are dotdot_is = rec
   entries_are = entries_are;
   dotdot_is = dotdot_is;
 }
-
--- the entries of the directory are those of the one form
-pub entries_of_short : (inode : List ℕ) (short : ShortForm) (entries : List held.Entry) (dotdot : ℕ) → ((form : ShortForm) → ShortHolds (short_bytes_of inode) form → short ≡ form) → HoldsShort inode entries dotdot → entries ≡ short.entries
-entries_of_short inode short entries dotdot only held = held.entries_are ∙ ap (λ (form : ShortForm). form.entries) (sym (only held.form held.holds))
 
 -- wrong names break rule 21
 pub breaks_names : (inode : List ℕ) (short : ShortForm) (Fact : Type 0) (fault : ForkFault) → HasShortSize inode × ShortHolds (short_bytes_of inode) short → (HasNames short.entries → Fact) → IsRule 21 Fact fault → IsShortFault inode fault

@@ -1,16 +1,48 @@
 -- What a look-up of a name finds among entries.
-use Rattle.std.specs.Prelude.{◌≢◌, ℕ, List, All, Contains, Option, Some, None}
+use Rattle.std.specs.Prelude.{◌≡◌, ◌≢◌, ◌⊎◌, ℕ, ◌*◌, List, All, Contains, Option, Some, None, IfSome}
 use Rattle.xn_bytes.specs.Superblock.{Geometry}
-use Rattle.xn_bytes.specs.Entries as bytes
-use Rattle.xn_bytes.specs.DirectoryForms.{DirHolds}
+use Rattle.xn_bytes.specs.Hashes.{name_hash_of}
+use Rattle.xn_bytes.specs.Entries as held
+use Rattle.xn_bytes.specs.DataBlock.{DataForm, LeafEntry, entries_among}
+use Rattle.xn_bytes.specs.DirectoryForms.{AreSorted, HoldsFirst, IsIndexOf, DirHolds, EntriesStand, IsIndexed}
 use Rattle.xn_dir.specs.declared.entry.Entry.{Entry}
 
+-- an entry stands in this place
+abbrev pub HasPlace : List held.Entry → ℕ → Type 0
+HasPlace entries position = (entry : held.Entry) × Contains entries entry × (entry.position ≡ position)
+
+-- a leaf entry is stale, or leads to an entry with another name
+abbrev pub Misses : List ℕ → List held.Entry → LeafEntry → Type 0
+Misses name entries leaf = (leaf.address ≡ 0) ⊎ ((entry : held.Entry) × Contains entries entry × (entry.position ≡ leaf.address * 8) × (entry.name ≢ name))
+
+-- so does each leaf entry of the name's hash
+abbrev pub AllMiss : List ℕ → DataForm → Type 0
+AllMiss name form = All (λ leaf. leaf.hash ≡ name_hash_of name → Misses name (entries_among form.regions) leaf) form.leaves
+
 -- None exactly where no entry has the name; else one that has it
-abbrev pub Finds : List ℕ → List bytes.Entry → Option Entry → Type 0
+abbrev pub Finds : List ℕ → List held.Entry → Option Entry → Type 0
 Finds name entries None = All (λ entry. entry.name ≢ name) entries
 Finds name entries (Some found) = Contains entries (record { name = name; ino = found.ino; kind = found.kind; position = found.position })
 
 -- Where the directory of an image holds entries and all is in order that a look-up rests on, what is found is found among
 -- these.
 abbrev pub FindsOver : Geometry → List ℕ → ℕ → List ℕ → Option Entry → Type 0
-FindsOver g image dir name found = (entries : List bytes.Entry) (dotdot : ℕ) → DirHolds g image dir entries dotdot → Finds name entries found
+FindsOver g image dir name found = (entries : List held.Entry) (dotdot : ℕ) → DirHolds g image dir entries dotdot → Finds name entries found
+
+-- What is found rests on entries that stand in the directory, whatever its leaf entries say: an entry that is found is one
+-- of them, and where the leaf entries are sorted and theirs, None means that none of them has the name.
+pub record StandsOver (g : Geometry) (image : List ℕ) (dir : ℕ) (name : List ℕ) (found : Option Entry) : Type 0 where
+  pub entries : List held.Entry
+  pub dotdot : ℕ
+  pub stand : EntriesStand g image dir entries dotdot
+  pub there : IfSome found (λ entry. Finds name entries (Some entry))
+  pub indexed : IsIndexed g image dir → Finds name entries found
+
+-- The same of the first block of a directory in block form, by its bytes.
+pub record StandsInFirst (g : Geometry) (dir block : ℕ) (bytes name : List ℕ) (found : Option Entry) : Type 0 where
+  pub form : DataForm
+  pub entries : List held.Entry
+  pub dotdot : ℕ
+  pub first : HoldsFirst g dir block bytes form entries dotdot
+  pub there : IfSome found (λ entry. Finds name entries (Some entry))
+  pub indexed : AreSorted form.leaves → IsIndexOf form.leaves (entries_among form.regions) → Finds name entries found

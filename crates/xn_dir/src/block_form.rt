@@ -1,17 +1,17 @@
 //! Directories in block form: one block holds the entries, and behind them the leaf entries by which they are found.
 
-ghost use Rattle.std.specs.Prelude.{◌≡◌, ◌↔◌, ℕ, List, All, IsTrue, IfOk, IfErr, MatchOption, MatchResult, length, map};
+ghost use Rattle.std.specs.Prelude.{◌≡◌, ◌↔◌, ℕ, List, All, None, Some, IsTrue, IfSome, IfOk, IfErr, MatchOption, MatchResult, length, map};
 ghost use Rattle.xn_bytes.specs.Names.{IsName};
 ghost use Rattle.xn_bytes.specs.Superblock.{IsBlock, sector_of_block};
 ghost use Rattle.xn_bytes.specs.Entries as held;
 ghost use Rattle.xn_bytes.specs.DataBlock.{DataForm, DataHolds, entries_among};
 ghost use Rattle.xn_bytes.specs.Directory.{HasNames};
-ghost use Rattle.xn_bytes.specs.DirectoryForms.{HasDots, HoldsFirst, HasTail, IsIndexOf};
+ghost use Rattle.xn_bytes.specs.DirectoryForms.{AreSorted, HasDots, HoldsFirst, HasTail, IsIndexOf};
 ghost use Rattle.xn_data.specs.Standing.{ArePlaced};
 ghost use Rattle.xn_dir.specs.Faults.{IsRule, IsFirstFault};
 ghost use Rattle.xn_dir.specs.FirstBlocks.{IsDots, IsOwn};
 ghost use Rattle.xn_dir.specs.Listings.{entry_of};
-ghost use Rattle.xn_dir.specs.Finding.{Finds};
+ghost use Rattle.xn_dir.specs.Finding.{AllMiss, StandsInFirst};
 
 use crate::entry::Entry;
 use crate::form::broken;
@@ -66,7 +66,8 @@ pub(crate) fn lookup(
 ) -> Result<Option<Entry>, ForkFault>
     requires size { length bytes.now ≡ 4096 }
     requires place { IsBlock geometry.now block }
-    ensures found { IfOk result (λ found. (form : DataForm) (entries : List held.Entry) (dotdot : ℕ) → HoldsFirst geometry.now dir block bytes.now form entries dotdot → HasTail form → IsIndexOf form.leaves (entries_among form.regions) → Finds name.now entries found) }
+    ensures stands { IfOk result (λ found. StandsInFirst geometry.now dir block bytes.now name.now found) }
+    ensures none { IfOk result (λ found. found ≡ None → (form : DataForm) → DataHolds bytes.now form → AreSorted form.leaves → AllMiss name.now form) }
     ensures fault { IfErr result (IsFirstFault geometry.now dir block bytes.now) }
 {
     let first = first_block(geometry, dir, block, bytes)?;

@@ -1,16 +1,18 @@
 //! The calls on a directory of a store.
 
-ghost use Rattle.std.specs.Prelude.{◌≡◌, ◌+◌, ◌≤◌, ℕ, IfSome, IfOk, IfErr, map};
+ghost use Rattle.std.specs.Prelude.{◌≡◌, ◌+◌, ◌≤◌, ℕ, List, IfSome, IfOk, IfErr, map};
 ghost use Rattle.xn_bytes.specs.Superblock.{IsBlock, IsInode};
 ghost use Rattle.xn_bytes.specs.Blocks.{block_of};
 ghost use Rattle.xn_bytes.specs.Inode.{inode_of};
 ghost use Rattle.xn_bytes.specs.Directory.{HasNames};
-ghost use Rattle.xn_bytes.specs.DirectoryForms.{DirHolds, HasParent, HasBlocksSize};
+ghost use Rattle.xn_bytes.specs.Entries as held;
+ghost use Rattle.xn_bytes.specs.DirectoryForms.{DirHolds, EntriesStand, HasBlocksSize};
+ghost use Rattle.xn_bytes.specs.DirectoryRules.{IsBuilt};
 ghost use Rattle.xn_inode.specs.Stores.{KeepsStore, IsOneMore};
 ghost use Rattle.xn_dir.specs.Inodes.{IsDirectory, IsSoundInode, IsOfForm};
 ghost use Rattle.xn_dir.specs.Faults.{IsFaultOver};
 ghost use Rattle.xn_dir.specs.Listings.{entry_of};
-ghost use Rattle.xn_dir.specs.Finding.{FindsOver};
+ghost use Rattle.xn_dir.specs.Finding.{FindsOver, StandsOver};
 ghost use Rattle.xn_dir.specs.declared.form.Form.TheVariants as forms;
 
 use crate::entry::Entry;
@@ -30,7 +32,8 @@ pub struct Dir;
 
 impl Dir {
     /// What a name stands for in the directory of this inode; None where no entry has the name. In block form it is found
-    /// by the hash of the name. It reads the inode and, in block form, the block.
+    /// by the hash of the name, so None rests on the leaf entries: it is sure where they are sorted and those of the entries.
+    /// An entry that is found always stands there. It reads the inode and, in block form, the block.
     pub fn lookup<S: Store>(
         alloc: Global,
         store: &mut S,
@@ -40,11 +43,14 @@ impl Dir {
         requires whole { S.IsWhole store.old }
         requires place { IsInode (S.shape store.old) dir }
         requires directory { IfSome (S.image store.old) (λ x. IsDirectory (inode_of (S.shape store.old) x dir)) }
+        ensures stands { IfOk result (λ found. IfSome (S.image store.old) (λ x. StandsOver (S.shape store.old) x dir name.now found)) }
         ensures found { IfOk result (λ found. IfSome (S.image store.old) (λ x. FindsOver (S.shape store.old) x dir name.now found)) }
+        ensures built { IfOk result (λ _. IfSome (S.image store.old) (λ x. IsBuilt (S.shape store.old) (inode_of (S.shape store.old) x dir) dir)) }
         ensures fault { IfErr result (IsFaultOver (S.shape store.old) dir (S.image store.old) (S.faults store.old) (S.faults store.new)) }
         ensures keeps { KeepsStore S.image S.shape S.IsWhole S.pool S.free S.references store.old store.new }
         ensures only_read { S.OnlyRead store.old store.new }
         ensures fetches { S.fetches store.new ≤ S.fetches store.old + 2 }
+        ensures faults { S.faults store.old ≤ S.faults store.new }
     {
         let mut inode = [0; INODE_BYTES];
         let (core, form) = read_form(alloc, store, dir, &mut inode)?;
@@ -66,10 +72,12 @@ impl Dir {
         requires directory { IfSome (S.image store.old) (λ x. IsDirectory (inode_of (S.shape store.old) x dir)) }
         ensures holds { IfOk result (λ listed. IfSome (S.image store.old) (λ x. (dotdot : ℕ) × DirHolds (S.shape store.old) x dir (map entry_of listed.items) dotdot)) }
         ensures names { IfOk result (λ listed. HasNames (map entry_of listed.items)) }
+        ensures built { IfOk result (λ _. IfSome (S.image store.old) (λ x. IsBuilt (S.shape store.old) (inode_of (S.shape store.old) x dir) dir)) }
         ensures fault { IfErr result (IsFaultOver (S.shape store.old) dir (S.image store.old) (S.faults store.old) (S.faults store.new)) }
         ensures keeps { KeepsStore S.image S.shape S.IsWhole S.pool S.free S.references store.old store.new }
         ensures only_read { S.OnlyRead store.old store.new }
         ensures fetches { S.fetches store.new ≤ S.fetches store.old + 2 }
+        ensures faults { S.faults store.old ≤ S.faults store.new }
     {
         let mut inode = [0; INODE_BYTES];
         let (core, form) = read_form(alloc, store, dir, &mut inode)?;
@@ -88,11 +96,13 @@ impl Dir {
         requires whole { S.IsWhole store.old }
         requires place { IsInode (S.shape store.old) dir }
         requires directory { IfSome (S.image store.old) (λ x. IsDirectory (inode_of (S.shape store.old) x dir)) }
-        ensures parent { IfOk result (λ dotdot. IfSome (S.image store.old) (λ x. HasParent (S.shape store.old) dir (inode_of (S.shape store.old) x dir) (block_of (S.shape store.old) x) dotdot)) }
+        ensures parent { IfOk result (λ dotdot. IfSome (S.image store.old) (λ x. (entries : List held.Entry) × EntriesStand (S.shape store.old) x dir entries dotdot)) }
+        ensures built { IfOk result (λ _. IfSome (S.image store.old) (λ x. IsBuilt (S.shape store.old) (inode_of (S.shape store.old) x dir) dir)) }
         ensures fault { IfErr result (IsFaultOver (S.shape store.old) dir (S.image store.old) (S.faults store.old) (S.faults store.new)) }
         ensures keeps { KeepsStore S.image S.shape S.IsWhole S.pool S.free S.references store.old store.new }
         ensures only_read { S.OnlyRead store.old store.new }
         ensures fetches { S.fetches store.new ≤ S.fetches store.old + 2 }
+        ensures faults { S.faults store.old ≤ S.faults store.new }
     {
         let mut inode = [0; INODE_BYTES];
         let (core, form) = read_form(alloc, store, dir, &mut inode)?;

@@ -1,13 +1,13 @@
 //! The leaf entries of a directory in block form, against its entries.
 
-ghost use Rattle.std.specs.Prelude.{◌≡◌, ◌↔◌, ℕ, List, Contains, IsTrue, IfOk, IfErr};
+ghost use Rattle.std.specs.Prelude.{◌≡◌, ◌↔◌, ℕ, List, Contains, None, Some, IsTrue, IfSome, MatchOption, IfOk, IfErr};
 ghost use Rattle.xn_bytes.specs.Entries as held;
 ghost use Rattle.xn_bytes.specs.DataBlock.{entries_among};
 ghost use Rattle.xn_bytes.specs.DirectoryForms.{AreSorted, HasTail, HasDots, IsIndexOf, leaf_of};
 ghost use Rattle.xn_data.specs.Standing.{ArePlaced};
 ghost use Rattle.xn_data.specs.Viewed.{entry_of};
 ghost use Rattle.xn_dir.specs.Faults.{IsIndexFault};
-ghost use Rattle.xn_dir.specs.Finding.{Finds};
+ghost use Rattle.xn_dir.specs.Finding.{HasPlace, AllMiss, Finds};
 
 use crate::entry::Entry;
 use crate::form::broken;
@@ -65,21 +65,23 @@ fn has_leaf(first: &DataBlock<'_>, entry: &DataEntry<'_>) -> bool
     false
 }
 
-/// The entry of a name, by the leaf entries of its hash. The block is named where they break a rule.
+/// The entry of a name, by the leaf entries of its hash. Where one of them leads to no entry, a rule is broken; of rule 18
+/// the block is named.
 pub(crate) fn find(
     first: &DataBlock<'_>,
     block: u64,
     name: &Name,
 ) -> Result<Option<Entry>, ForkFault>
     requires placed { ArePlaced 64 4096 (entries_among first.now.regions) }
-    ensures found { IfOk result (λ found. (entries : List held.Entry) (dotdot : ℕ) → HasDots (entries_among first.now.regions) entries dotdot → HasTail first.now → IsIndexOf first.now.leaves (entries_among first.now.regions) → Finds name.now entries found) }
+    ensures there { IfOk result (λ found. IfSome found (λ entry. (entries : List held.Entry) (dotdot : ℕ) → HasDots (entries_among first.now.regions) entries dotdot → Finds name.now entries (Some entry))) }
+    ensures none { IfOk result (λ found. found ≡ None → AreSorted first.now.leaves → AllMiss name.now first.now) }
     ensures fault { IfErr result (IsIndexFault block first.now) }
 {
     for (_, address) in first.tail_with_hash(name_hash(name.bytes())) {
         if address == 0 {
             continue;
         }
-        let Some(entry) = first.entry_at(u64::from(address) * 8) else {
+        let Some(entry) = standing_at(first, u64::from(address) * 8) else {
             return Err(index_fault(first, block));
         };
         if entry.name == name.bytes() {
@@ -91,6 +93,20 @@ pub(crate) fn find(
         }
     }
     Ok(None)
+}
+
+/// The entry that stands in a place. It goes over the entries, since bytes within one can look like another.
+fn standing_at<'a>(first: &DataBlock<'a>, position: u64) -> Option<DataEntry<'a>>
+    ensures { MatchOption result
+        (¬ HasPlace (entries_among first.now.regions) position)
+        (λ entry. Contains (entries_among first.now.regions) (entry_of entry) × (entry.position ≡ position)) }
+{
+    for entry in first.entries() {
+        if entry.position == position {
+            return Some(entry);
+        }
+    }
+    None
 }
 
 /// Which rule leaf entries break that are not those of the entries.

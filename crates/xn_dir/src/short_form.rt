@@ -1,6 +1,6 @@
 //! Directories in short form: the entries stand in the inode.
 
-ghost use Rattle.std.specs.Prelude.{◌≡◌, ℕ, List, All, IfOk, IfErr, MatchResult, map};
+ghost use Rattle.std.specs.Prelude.{◌≡◌, ℕ, List, All, Some, IfSome, IfOk, IfErr, MatchResult, map};
 ghost use Rattle.xn_bytes.specs.Names.{IsName};
 ghost use Rattle.xn_bytes.specs.Inode.{HasForks, CoreHolds, local_format};
 ghost use Rattle.xn_bytes.specs.Numbers.{number_at};
@@ -39,7 +39,7 @@ pub(crate) fn list(alloc: Global, core: &Core, inode: &[u8]) -> Result<Vec<Liste
 pub(crate) fn lookup(core: &Core, inode: &[u8], name: &Name) -> Result<Option<Entry>, ForkFault>
     requires core { CoreHolds inode.now core.now }
     requires forks { HasForks inode.now }
-    ensures found { IfOk result (λ found. (entries : List held.Entry) (dotdot : ℕ) → HoldsShort inode.now entries dotdot → Finds name.now entries found) }
+    ensures stands { IfOk result (λ found. (form : ShortForm) × HasShortSize inode.now × ShortHolds (short_bytes_of inode.now) form × Finds name.now form.entries found) }
     ensures fault { IfErr result (IsShortFault inode.now) }
 {
     let short = short_of(core, inode)?;
@@ -69,7 +69,6 @@ fn short_of<'a>(core: &Core, inode: &'a [u8]) -> Result<Short<'a>, ForkFault>
     requires core { CoreHolds inode.now core.now }
     requires forks { HasForks inode.now }
     ensures form { IfOk result (λ short. HasShortSize inode.now × ShortHolds (short_bytes_of inode.now) short) }
-    ensures only { IfOk result (λ short. (form : ShortForm) → ShortHolds (short_bytes_of inode.now) form → short ≡ form) }
     ensures fault { IfErr result (IsShortFault inode.now) }
 {
     let fork = core.data_fork(inode);
