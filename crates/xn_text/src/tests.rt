@@ -146,6 +146,8 @@ fn errors(rt: HostRuntime) -> Result<(), Fail> {
 fn other_lines(rt: HostRuntime) -> Result<(), Fail> {
     let usage = usage_line(rt.alloc()).ok().ok_or("there is memory")?;
     assert_eq!(rt; usage.as_slice(), b"usage\n".as_slice());
+    let unbuilt = unbuilt_line(rt.alloc()).ok().ok_or("there is memory")?;
+    assert_eq!(rt; unbuilt.as_slice(), b"unbuilt\n".as_slice());
     let image = image_line(rt.alloc(), 24, 144, 0)
         .ok()
         .ok_or("there is memory")?;
