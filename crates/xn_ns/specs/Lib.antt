@@ -1,0 +1,4 @@
+pub mod Ends
+pub mod Sights
+pub mod Lines
+pub mod Steps

@@ -1,0 +1,86 @@
+//! `list`: the entries of a directory, sorted by name.
+
+ghost use Rattle.std.specs.Prelude.{◌≡◌, ◌+◌, ◌-◌, ◌≤◌, IfOk, IfSome, map};
+ghost use Rattle.xn_bytes.specs.Reading.{ListEnds, ListReads, ListsDirectory, IsAttached};
+ghost use Rattle.xn_bytes.specs.Superblock.{IsInode};
+ghost use Rattle.xn_bytes.specs.Inode.{inode_of};
+ghost use Rattle.xn_bytes.specs.Directory.{HasNames};
+ghost use Rattle.xn_inode.specs.Stores.{KeepsStore};
+ghost use Rattle.xn_dir.specs.Listings.{entry_of};
+ghost use Rattle.xn_text.specs.Viewed.{line_of};
+ghost use Rattle.xn_ns.specs.Ends.{Answered};
+ghost use Rattle.xn_ns.specs.Lines.{AreLinesOf, listed_line};
+
+use crate::fault::{SeeFault, of_directory};
+use crate::sight::{Sight, look_at};
+use std::alloc::{AllocError, Global};
+use xn_bytes::Errno;
+use xn_dir::{Dir, Listed};
+use xn_inode::Store;
+use xn_text::{Lines, ListLine, Reply};
+
+/// What `list` of an inode answers: the entries of a directory, sorted by the bytes of their names; `ENOENT` where the
+/// inode is not live, or a directory that no entry names; `ENOTDIR` where it is none. It reads the inode where it is live
+/// and, where it is the root's or that of a directory with a link, what the directory's form needs.
+pub fn list<S: Store>(alloc: Global, store: &mut S, ino: u64) -> Result<Reply, SeeFault>
+    requires whole { S.IsWhole store.old }
+    ensures answered { Answered (ListEnds (S.shape store.old) ino) (ListReads (S.shape store.old) ino) (S.image store.old) (S.faults store.old) (S.faults store.new) (S.fetches store.new - S.fetches store.old) result }
+    ensures keeps { KeepsStore S.image S.shape S.IsWhole S.pool S.free S.references store.old store.new }
+    ensures only_read { S.OnlyRead store.old store.new }
+    ensures fetches { S.fetches store.new ≤ S.fetches store.old + 3 }
+{
+    match look_at(store, ino)? {
+        Sight::Gone | Sight::Detached => Ok(Reply::Error(Errno::ENOENT)),
+        Sight::Broken { rule } => Err(SeeFault::Broken {
+            rule,
+            inode: ino,
+            block: 0,
+        }),
+        Sight::Other => Ok(Reply::Error(Errno::ENOTDIR)),
+        Sight::Attached => list_directory(alloc, store, ino),
+    }
+}
+
+/// The list of a directory that is the root or has a link.
+fn list_directory<S: Store>(alloc: Global, store: &mut S, dir: u64) -> Result<Reply, SeeFault>
+    requires whole { S.IsWhole store.old }
+    requires place { IsInode (S.shape store.old) dir }
+    requires attached { IfSome (S.image store.old) (λ x. IsAttached (S.shape store.old) (inode_of (S.shape store.old) x dir) dir) }
+    ensures answered { Answered (ListsDirectory (S.shape store.old) dir) (λ x _. IsAttached (S.shape store.old) (inode_of (S.shape store.old) x dir) dir) (S.image store.old) (S.faults store.old) (S.faults store.new) (S.fetches store.new - S.fetches store.old) result }
+    ensures keeps { KeepsStore S.image S.shape S.IsWhole S.pool S.free S.references store.old store.new }
+    ensures only_read { S.OnlyRead store.old store.new }
+    ensures fetches { S.fetches store.new ≤ S.fetches store.old + 2 }
+    ensures faults { S.faults store.old ≤ S.faults store.new }
+{
+    match Dir::list(alloc, store, dir) {
+        Ok(listed) => Ok(Reply::List(Lines::new(sorted_lines(alloc, listed)?))),
+        Err(fault) => Err(of_directory(fault, dir)),
+    }
+}
+
+/// The lines of entries, sorted by the bytes of their names.
+fn sorted_lines(alloc: Global, listed: Vec<Listed>) -> Result<Vec<ListLine>, AllocError>
+    requires { HasNames (map entry_of listed.items) }
+    ensures { IfOk result (λ lines. AreLinesOf (map entry_of listed.items) (map line_of lines.items)) }
+{
+    let mut sorted = listed;
+    sorted.sort_by(|entry, other| entry.name.bytes().cmp(other.name.bytes()))?;
+    lines_of(alloc, sorted)
+}
+
+/// A line for each entry, in their order.
+fn lines_of(alloc: Global, listed: Vec<Listed>) -> Result<Vec<ListLine>, AllocError>
+    ensures { IfOk result (λ lines. lines.items ≡ map listed_line listed.items) }
+{
+    listed.into_iter().map(into_line).collect(alloc)
+}
+
+fn into_line(entry: Listed) -> ListLine
+    ensures { result ≡ listed_line entry }
+{
+    ListLine {
+        ino: entry.ino,
+        kind: entry.kind,
+        name: entry.name,
+    }
+}

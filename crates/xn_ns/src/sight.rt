@@ -1,0 +1,76 @@
+ghost use Rattle.std.specs.Prelude.{◌≡◌, ◌+◌, ◌≤◌, ◌↔◌, IsTrue, IfOk, IfErr, OnErr, IfSome};
+ghost use Rattle.xn_bytes.specs.Causes.{Rose};
+ghost use Rattle.xn_bytes.specs.Inode.{inode_of};
+ghost use Rattle.xn_bytes.specs.Directory.{IsLive};
+ghost use Rattle.xn_inode.specs.Stores.{KeepsStore};
+ghost use Rattle.xn_inode.specs.declared.store.StoreFault.TheVariants.{Read};
+ghost use Rattle.xn_ns.specs.Sights.{IsSightOf, HasPlace};
+
+use xn_bytes::Kind;
+use xn_inode::{Core, Store, StoreFault, Super};
+
+const INODE_BYTES: usize = 512;
+
+/// What an inode is to a command that needs a directory.
+#[derive(Clone, Copy, Debug, PartialEq, Eq)]
+pub(crate) enum Sight {
+    /// It is not live.
+    Gone,
+    /// It breaks rule 10 or 11.
+    Broken { rule: u8 },
+    /// It is no directory.
+    Other,
+    /// It is a directory without a link, and not the root.
+    Detached,
+    /// It is the root or a directory with a link.
+    Attached,
+}
+
+/// Looks at an inode. It reads at most the inode, and this only where it is live.
+pub(crate) fn look_at<S: Store>(store: &mut S, ino: u64) -> Result<Sight, StoreFault>
+    requires whole { S.IsWhole store.old }
+    ensures seen { IfOk result (λ seen. IfSome (S.image store.old) (λ x. IsSightOf (S.shape store.old) (inode_of (S.shape store.old) x ino) ino seen)) }
+    ensures place { IfOk result (HasPlace (S.shape store.old) ino) }
+    ensures cause { IfErr result (λ fault. fault ≡ Read → Rose (S.faults store.old) (S.faults store.new)) }
+    ensures live { OnErr result (IsLive (S.shape store.old) ino) }
+    ensures faults { S.faults store.old ≤ S.faults store.new }
+    ensures keeps { KeepsStore S.image S.shape S.IsWhole S.pool S.free S.references store.old store.new }
+    ensures only_read { S.OnlyRead store.old store.new }
+    ensures fetches { S.fetches store.new ≤ S.fetches store.old + 1 }
+{
+    if !is_live(store.geometry(), ino) {
+        return Ok(Sight::Gone);
+    }
+    let mut inode = [0; INODE_BYTES];
+    store.inode(ino, &mut inode)?;
+    Ok(sight_of(store.geometry(), ino, &inode))
+}
+
+/// Whether an inode may be live: in range, and none of the superblock's own.
+fn is_live(geometry: &Super, ino: u64) -> bool
+    ensures { IsTrue result ↔ IsLive geometry.now ino }
+{
+    geometry.is_inode(ino) && !geometry.own_inode(ino)
+}
+
+/// What a live inode is, by its bytes.
+fn sight_of(geometry: &Super, ino: u64, inode: &[u8]) -> Sight
+    requires live { IsLive geometry.now ino }
+    ensures { IsSightOf geometry.now inode.now ino result }
+{
+    let core = match Core::read(inode, ino, geometry.meta_uuid()) {
+        Ok(core) => core,
+        Err(fault) => return Sight::Broken { rule: fault.rule },
+    };
+    let is_root = ino == geometry.root();
+    if !is_root && core.forkoff() == 0 {
+        return Sight::Broken { rule: 11 };
+    }
+    if core.kind() != Kind::Dir {
+        Sight::Other
+    } else if is_root || core.nlink() != 0 {
+        Sight::Attached
+    } else {
+        Sight::Detached
+    }
+}

@@ -1,0 +1,135 @@
+//! `resolve`: the walk of a path from the root.
+
+ghost use Rattle.std.specs.Prelude.{◌≡◌, ◌+◌, ◌-◌, ◌*◌, ◌≤◌, ℕ, List, IfSome, MatchResult, length};
+ghost use Rattle.xn_bytes.specs.Names.{IsName, IsNameFault};
+ghost use Rattle.xn_bytes.specs.NameSpace.{part_error};
+ghost use Rattle.xn_bytes.specs.Paths.{parts_of};
+ghost use Rattle.xn_bytes.specs.Reading.{ResolveEnds, ResolveReads, TakesInImage, TakesPart, IsDirectoryIn};
+ghost use Rattle.xn_bytes.specs.Superblock.{IsInode};
+ghost use Rattle.xn_inode.specs.Stores.{KeepsStore};
+ghost use Rattle.xn_ns.specs.Ends.{Answered};
+ghost use Rattle.xn_ns.specs.Steps.{IsTaken, StepReads, place_of};
+
+use crate::fault::{SeeFault, of_directory};
+use crate::parts::first_part;
+use crate::sight::{Sight, look_at};
+use std::alloc::Global;
+use xn_bytes::{Errno, Kind, Name, NameFault};
+use xn_dir::Dir;
+use xn_inode::Store;
+use xn_text::Reply;
+
+/// Where a walk is: an inode, and its kind by the entry that led there.
+#[derive(Clone, Copy, Debug, PartialEq, Eq)]
+pub(crate) struct Place {
+    pub(crate) ino: u64,
+    pub(crate) kind: Kind,
+}
+
+/// What comes of one part of a path.
+#[derive(Clone, Copy, Debug, PartialEq, Eq)]
+pub(crate) enum Step {
+    /// The walk goes on from there.
+    Goes(Place),
+    /// It ends with a refusal.
+    Refused(Errno),
+}
+
+/// What `resolve` of a path answers: the inode to which its parts lead from the root, and its kind. A part behind what is
+/// no directory is `ENOTDIR`; one that is no name `ENAMETOOLONG` or `EINVAL`; one that no entry has `ENOENT`. Empty parts
+/// are passed over. For each part it reads the directory's inode and what a look-up in its form needs.
+pub fn resolve<S: Store>(alloc: Global, store: &mut S, path: &[u8]) -> Result<Reply, SeeFault>
+    requires whole { S.IsWhole store.old }
+    ensures answered { Answered (ResolveEnds (S.shape store.old) path.now) (ResolveReads (S.shape store.old) path.now) (S.image store.old) (S.faults store.old) (S.faults store.new) (S.fetches store.new - S.fetches store.old) result }
+    ensures keeps { KeepsStore S.image S.shape S.IsWhole S.pool S.free S.references store.old store.new }
+    ensures only_read { S.OnlyRead store.old store.new }
+    ensures fetches { S.fetches store.new ≤ S.fetches store.old + 3 * length (parts_of path.now) }
+{
+    let mut here = Place {
+        ino: store.geometry().root(),
+        kind: Kind::Dir,
+    };
+    let mut rest = path;
+    while let Some((part, behind)) = first_part(rest) {
+        match take_part(alloc, store, here, part)? {
+            Step::Goes(place) => here = place,
+            Step::Refused(error) => return Ok(Reply::Error(error)),
+        }
+        rest = behind;
+    }
+    Ok(Reply::Entry {
+        ino: here.ino,
+        kind: here.kind,
+    })
+}
+
+/// One part of a path, from a place.
+fn take_part<S: Store>(
+    alloc: Global,
+    store: &mut S,
+    here: Place,
+    part: &[u8],
+) -> Result<Step, SeeFault>
+    requires whole { S.IsWhole store.old }
+    ensures taken { IsTaken (λ x. TakesInImage (S.shape store.old) x (place_of here) part.now) (λ _. StepReads (S.shape store.old) (place_of here)) (S.image store.old) (S.faults store.old) (S.faults store.new) result }
+    ensures keeps { KeepsStore S.image S.shape S.IsWhole S.pool S.free S.references store.old store.new }
+    ensures only_read { S.OnlyRead store.old store.new }
+    ensures fetches { S.fetches store.new ≤ S.fetches store.old + 3 }
+    ensures faults { S.faults store.old ≤ S.faults store.new }
+{
+    if here.kind != Kind::Dir {
+        return Ok(Step::Refused(Errno::ENOTDIR));
+    }
+    match look_at(store, here.ino)? {
+        Sight::Gone | Sight::Other => Ok(Step::Refused(Errno::ENOTDIR)),
+        Sight::Broken { rule } => Err(SeeFault::Broken {
+            rule,
+            inode: here.ino,
+            block: 0,
+        }),
+        Sight::Detached | Sight::Attached => take_part_in(alloc, store, here.ino, part),
+    }
+}
+
+/// One part of a path, from a directory.
+fn take_part_in<S: Store>(
+    alloc: Global,
+    store: &mut S,
+    dir: u64,
+    part: &[u8],
+) -> Result<Step, SeeFault>
+    requires whole { S.IsWhole store.old }
+    requires place { IsInode (S.shape store.old) dir }
+    requires directory { IfSome (S.image store.old) (λ x. IsDirectoryIn (S.shape store.old) x dir) }
+    ensures taken { IsTaken (λ x. TakesPart (S.shape store.old) x dir part.now) (λ x. IsDirectoryIn (S.shape store.old) x dir) (S.image store.old) (S.faults store.old) (S.faults store.new) result }
+    ensures keeps { KeepsStore S.image S.shape S.IsWhole S.pool S.free S.references store.old store.new }
+    ensures only_read { S.OnlyRead store.old store.new }
+    ensures fetches { S.fetches store.new ≤ S.fetches store.old + 2 }
+    ensures faults { S.faults store.old ≤ S.faults store.new }
+{
+    let name = match Name::read(alloc, part) {
+        Ok(name) => name,
+        Err(fault) => return refused(fault),
+    };
+    match Dir::lookup(alloc, store, dir, &name) {
+        Ok(Some(entry)) => Ok(Step::Goes(Place {
+            ino: entry.ino,
+            kind: entry.kind,
+        })),
+        Ok(None) => Ok(Step::Refused(Errno::ENOENT)),
+        Err(fault) => Err(of_directory(fault, dir)),
+    }
+}
+
+/// What comes of a part that is no name, by the cause for which it is none.
+fn refused(fault: NameFault) -> Result<Step, SeeFault>
+    ensures { (part : List ℕ) → IsNameFault part fault → MatchResult result (λ step. ¬ IsName part × (step ≡ Step.Refused (part_error part))) (λ error. error ≡ SeeFault.Memory) }
+{
+    match fault {
+        NameFault::Memory => Err(SeeFault::Memory),
+        NameFault::Long => Ok(Step::Refused(Errno::ENAMETOOLONG)),
+        NameFault::Empty | NameFault::Byte { .. } | NameFault::Dots => {
+            Ok(Step::Refused(Errno::EINVAL))
+        }
+    }
+}
