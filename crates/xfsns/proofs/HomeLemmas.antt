@@ -11,11 +11,11 @@ use Rattle.xfsns.specs.Home.{FindsSuper}
 
 pub finds : (image : Option (List ℕ)) (sectors : ℕ) (sector : List ℕ) (r : Result Geometry GeomFault)
     → MatchResult r (λ s. IsSuperblock sector sectors × (s ≡ geometry_of sector)) (λ fault. FirstFieldBroken sector sectors fault.field)
-    → IfSome image (λ x. sector ≡ read_from x 0 512) → IfSome image (λ x. length x ≡ 512 * sectors) → FindsSuper image sectors (result_ok r)
-finds None sectors sector (Ok g) read same long = (rw read.1 read.0.length, tt)
+    → IfSome image (λ x. sector ≡ read_from x 0 512) → IfSome image (λ x. length x ≡ 512 * sectors) → FindsSuper image (result_ok r)
+finds None sectors sector (Ok g) read same long = tt
 finds (Some x) sectors sector (Ok g) read same long =
     let count : length x / 512 ≡ sectors = omega arith in
-    (rw read.1 read.0.length, (subst (λ (b : List ℕ). IsSuperblock b (length x / 512)) same (rw count read.0), read.1 ∙ ap geometry_of same))
+    (subst (λ (b : List ℕ). IsSuperblock b (length x / 512)) same (rw count read.0), read.1 ∙ ap geometry_of same)
 finds None sectors sector (Err fault) read same long = tt
 finds (Some x) sectors sector (Err fault) read same long =
     let count : length x / 512 ≡ sectors = omega arith in

@@ -1,4 +1,4 @@
-pub mod WordLemmas
 pub mod HomeLemmas
-pub mod ListingLemmas
 pub mod AnswerLemmas
+pub mod CauseLemmas
+pub mod TellLemmas

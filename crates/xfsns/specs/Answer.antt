@@ -1,37 +1,57 @@
--- What is answered by an inode's bytes, and what a fault of reading comes from.
-use Rattle.std.specs.Prelude.{◌≡◌, ◌⊎◌, ℕ, ◌+◌, ◌≤◌, List, Option, IfSome}
+-- What the commands are, how their ends are answered, and what a fault of reading comes from.
+use Rattle.std.specs.Prelude.{◌≡◌, ◌⊎◌, ℕ, ◌+◌, ◌-◌, ◌*◌, ◌≤◌, List, length, Option, IfSome, IsSomeAnd}
 use Rattle.xn_bytes.specs.declared.status.Status.{Status}
-use Rattle.xn_bytes.specs.declared.status.Status.TheVariants.{Done, Usage, Image, ReadFault, SayFault, Memory, Unbuilt}
 use Rattle.xn_bytes.specs.Causes.{Rose}
-use Rattle.xn_bytes.specs.Entries.{Entry}
 use Rattle.xn_bytes.specs.Superblock.{Geometry}
-use Rattle.xn_bytes.specs.ShortDirectory.{ShortForm}
-use Rattle.xn_bytes.specs.Directory.{IsListing}
-use Rattle.xn_bytes.specs.Words.{AsksList}
-use Rattle.xn_bytes.specs.Replies.{unbuilt_line, list_text}
-use Rattle.xn_bytes.specs.Outcome.{IsPlain, HasSuperblock}
+use Rattle.xn_bytes.specs.Words.{AsksList, AsksResolve, AsksNothing}
+use Rattle.xn_bytes.specs.Paths.{parts_of}
+use Rattle.xn_bytes.specs.NameSpace.{End}
+use Rattle.xn_bytes.specs.Reading.{ListEnds, ResolveEnds, ListReads, ResolveReads}
+use Rattle.xn_bytes.specs.Outcome.{HasSuperblock, AsksToRead, IsDue, end_status, end_text}
+use Rattle.xn_text.specs.declared.words.Words.{Words}
+use Rattle.xn_text.specs.declared.words.Words.TheVariants as commands
 use Rattle.xfsns.specs.declared.answer.Fault.{Fault}
 use Rattle.xfsns.specs.declared.answer.Fault.TheVariants as faults
 
--- the answer to `list` by the bytes of the inode
-abbrev pub AnswersOfInode : Geometry → ℕ → List ℕ → Status → List ℕ → Type 0
-AnswersOfInode g ino inode Unbuilt told = (told ≡ unbuilt_line) × ((form : ShortForm) → ¬ IsPlain g ino inode form)
-AnswersOfInode g ino inode Done told =
-    (sorted : List Entry) × (told ≡ list_text sorted) × ((form : ShortForm) × IsPlain g ino inode form × IsListing form.entries sorted)
-AnswersOfInode g ino inode Usage told = ⊥
-AnswersOfInode g ino inode Image told = ⊥
-AnswersOfInode g ino inode ReadFault told = ⊥
-AnswersOfInode g ino inode SayFault told = ⊥
-AnswersOfInode g ino inode Memory told = ⊥
+-- ---- the commands
 
--- A read that failed: its count rose, and after the first read the superblock is accepted. Want of memory has no cause.
-abbrev pub HasCauseOf : {M : Type 0} → (M → Option (List ℕ)) → (M → ℕ) → (M → ℕ) → M → M → Fault → Type 0
-HasCauseOf image reads read_faults old new faults.Memory = Unit {0}
-HasCauseOf image reads read_faults old new faults.Read =
-    Rose (read_faults old) (read_faults new) × IfSome (image old) (λ x. (reads new ≤ reads old + 1) ⊎ HasSuperblock x)
+-- how a command ends over an image, by its geometry
+abbrev pub EndsWith : Words → Geometry → List ℕ → End → Type 0
+EndsWith (commands.List ino) g = ListEnds g ino
+EndsWith (commands.Resolve path) g = ResolveEnds g path
 
--- the same, and the words ask for something that is read
+-- it reads from an image, beside the superblock, so many times
+abbrev pub DueFor : Words → Geometry → List ℕ → ℕ → Type 0
+DueFor (commands.List ino) g = ListReads g ino
+DueFor (commands.Resolve path) g = ResolveReads g path
+
+-- how often it reads at most, once the superblock is read
+abbrev pub most_reads : Words → ℕ
+most_reads (commands.List ino) = 3
+most_reads (commands.Resolve path) = 3 * length (parts_of path)
+
+-- The reads of a call, by its words: that of the superblock, three for a list, and three for each part of a path.
+pub record ReadsFor (words : List (List ℕ)) (before now : ℕ) : Type 0 where
+  pub list : (ino : ℕ) → AsksList words ino → now ≤ before + 4
+  pub resolve : (path : List ℕ) → AsksResolve words path → now ≤ before + 1 + 3 * length (parts_of path)
+  pub nothing : AsksNothing words → now ≡ before
+
+-- ---- the answers
+
+-- the status and the text of the end that there was
+abbrev pub IsAnswerTo : Option End → Status → List ℕ → Type 0
+IsAnswerTo ended status text = IsSomeAnd ended (λ end. (status ≡ end_status end) × (text ≡ end_text end))
+
+-- A read that failed: its count rose, and it was the first, or the superblock is accepted and so many reads beside it were
+-- due. Want of memory has no cause.
+abbrev pub HasCauseOf : {M : Type 0} → (List ℕ → ℕ → Type 0) → (M → Option (List ℕ)) → (M → ℕ) → (M → ℕ) → M → M → Fault → Type 0
+HasCauseOf AreDue image reads read_faults old new faults.Memory = Unit {0}
+HasCauseOf AreDue image reads read_faults old new faults.Read =
+    Rose (read_faults old) (read_faults new)
+    × IfSome (image old) (λ x. (reads new ≤ reads old + 1) ⊎ (HasSuperblock x × AreDue x (reads new - (reads old + 1))))
+
+-- the same for words, and they ask for something that is read
 abbrev pub HasReadCause : {M : Type 0} → List (List ℕ) → (M → Option (List ℕ)) → (M → ℕ) → (M → ℕ) → M → M → Fault → Type 0
 HasReadCause words image reads read_faults old new faults.Memory = Unit {0}
 HasReadCause words image reads read_faults old new faults.Read =
-    ((ino : ℕ) × AsksList words ino) × HasCauseOf image reads read_faults old new faults.Read
+    AsksToRead words × HasCauseOf (IsDue words) image reads read_faults old new faults.Read

@@ -1,22 +1,20 @@
 //! What is answered to the words: a status, and the text to be told.
 
-ghost use Rattle.std.specs.Prelude.{◌≡◌, ◌+◌, ◌≤◌, ◌*◌, ◌<◌, IfOk, IfErr, map, string_bytes};
-ghost use Rattle.xn_bytes.specs.Directory.{IsLive};
-ghost use Rattle.xn_bytes.specs.Outcome.{Answers, ListAnswers};
-ghost use Rattle.xn_bytes.specs.Replies.{unbuilt_line};
-ghost use Rattle.xfsns.specs.Home.{KeepsImage};
-ghost use Rattle.xfsns.specs.Answer.{AnswersOfInode, HasCauseOf, HasReadCause};
+ghost use Rattle.std.specs.Prelude.{◌≡◌, ◌+◌, ◌≤◌, IfOk, IfErr, Err, map, string_bytes};
+ghost use Rattle.xn_bytes.specs.Outcome.{Answers, Reads, geometry_in};
+ghost use Rattle.xn_bytes.specs.Replies.{reply_text};
+ghost use Rattle.xn_ns.specs.Ends.{end_of};
+ghost use Rattle.xn_replay.specs.Viewed.{MachineStays};
+ghost use Rattle.xn_text.specs.Viewed.{reply_of};
+ghost use Rattle.xfsns.specs.Answer.{EndsWith, DueFor, IsAnswerTo, ReadsFor, most_reads, HasCauseOf, HasReadCause};
 ghost use Rattle.xfsns.specs.declared.answer.Fault.TheVariants.{Read, Memory};
 
-use crate::home::{read_inode, read_super};
-use crate::listing::sorted_entries;
-use crate::plain::{is_live, plain_form};
-use crate::told_text;
-use crate::words::Words;
-use std::alloc::{AllocError, Global};
+use crate::home::{ask_image, read_super};
+use std::alloc::Global;
 use xn_bytes::{Memory as OutOfMemory, Status};
-use xn_inode::Super;
 use xn_machine::{Failed, Machine};
+use xn_ns::SeeFault;
+use xn_text::{Reply, Words, WordsFault, image_line, unbuilt_line, usage_line};
 
 /// A status, and the text to be told with it.
 #[derive(Debug, Drop)]
@@ -50,81 +48,76 @@ impl From<OutOfMemory> for Fault {
     }
 }
 
-impl From<AllocError> for Fault {
-    ghost from_gives = { λ _ fault. fault ≡ Memory };
-
-    fn from(_: AllocError) -> Fault {
-        Fault::Memory
-    }
-}
-
 /// The answer to the words over the machine's image.
 pub fn answer_words<M: Machine>(
     alloc: Global,
     words: &[String],
     machine: &mut M,
 ) -> Result<Answer, Fault>
-    ensures kept { KeepsImage M.image M.told M.sector_count M.read_faults M.write_faults M.say_faults machine.old machine.new }
-    ensures reads { M.reads machine.new ≤ M.reads machine.old + 2 }
+    ensures stays { MachineStays M.image M.told M.sector_count M.read_faults M.write_faults M.say_faults machine.old machine.new }
+    ensures reads { ReadsFor (map string_bytes words.now) (M.reads machine.old) (M.reads machine.new) }
     ensures answer { IfOk result (λ answer. Answers (map string_bytes words.now) (M.image machine.old) answer.status answer.text.items) }
     ensures cause { IfErr result (HasReadCause (map string_bytes words.now) M.image M.reads M.read_faults machine.old machine.new) }
 {
-    match Words::read(words) {
-        Some(Words::List { ino }) => answer_list(alloc, machine, ino),
-        None => Ok(Answer {
+    match Words::read(alloc, words) {
+        Ok(command) => answer_command(alloc, machine, &command),
+        Err(WordsFault::Usage) => Ok(Answer {
             status: Status::Usage,
-            text: told_text::usage(alloc)?,
+            text: usage_line(alloc)?,
         }),
+        Err(WordsFault::Memory) => Err(Fault::Memory),
     }
 }
 
-/// The answer to `list` of an inode.
-fn answer_list<M: Machine>(alloc: Global, machine: &mut M, ino: u64) -> Result<Answer, Fault>
-    ensures kept { KeepsImage M.image M.told M.sector_count M.read_faults M.write_faults M.say_faults machine.old machine.new }
-    ensures reads { M.reads machine.new ≤ M.reads machine.old + 2 }
-    ensures answer { IfOk result (λ answer. ListAnswers (M.image machine.old) ino answer.status answer.text.items) }
-    ensures cause { IfErr result (HasCauseOf M.image M.reads M.read_faults machine.old machine.new) }
+/// The answer to a command over the machine's image.
+fn answer_command<M: Machine>(
+    alloc: Global,
+    machine: &mut M,
+    command: &Words,
+) -> Result<Answer, Fault>
+    ensures stays { MachineStays M.image M.told M.sector_count M.read_faults M.write_faults M.say_faults machine.old machine.new }
+    ensures reads { M.reads machine.new ≤ M.reads machine.old + 1 + most_reads command.now }
+    ensures answer { IfOk result (λ answer. Reads (EndsWith command.now) (M.image machine.old) answer.status answer.text.items) }
+    ensures cause { IfErr result (HasCauseOf (λ x. DueFor command.now (geometry_in x) x) M.image M.reads M.read_faults machine.old machine.new) }
 {
     let Some(geometry) = read_super(machine)? else {
         return Ok(Answer {
             status: Status::Image,
-            text: told_text::image(alloc, 1, 0, 0)?,
+            text: image_line(alloc, 1, 0, 0)?,
         });
     };
-    if !is_live(&geometry, ino) {
-        return Ok(unbuilt(alloc)?);
-    }
-    let inode = read_inode(machine, &geometry, ino)?;
-    Ok(answer_of_inode(alloc, &geometry, ino, &inode)?)
+    let ended = ask_image(alloc, machine, &geometry, command);
+    answer_of(alloc, ended)
 }
 
-/// The answer by the bytes of a live inode.
-fn answer_of_inode(
-    alloc: Global,
-    geometry: &Super,
-    ino: u64,
-    inode: &[u8],
-) -> Result<Answer, OutOfMemory>
-    requires { IsLive geometry.now ino }
-    ensures { IfOk result (λ answer. AnswersOfInode geometry.now ino inode.now answer.status answer.text.items) }
+/// The answer to a command that ended so.
+fn answer_of(alloc: Global, ended: Result<Reply, SeeFault>) -> Result<Answer, Fault>
+    ensures answer { IfOk result (λ answer. IsAnswerTo (end_of ended) answer.status answer.text.items) }
+    ensures read { IfErr result (λ fault. fault ≡ Read → ended ≡ Err SeeFault.Read) }
 {
-    let Some(short) = plain_form(geometry, ino, inode) else {
-        return unbuilt(alloc);
-    };
-    match sorted_entries(alloc, &short)? {
-        Some(entries) => Ok(Answer {
+    match ended {
+        Ok(reply) => Ok(Answer {
             status: Status::Done,
-            text: told_text::list(alloc, &entries)?,
+            text: text_of(alloc, &reply)?,
         }),
-        None => unbuilt(alloc),
+        Err(SeeFault::Broken { rule, inode, block }) => Ok(Answer {
+            status: Status::Image,
+            text: image_line(alloc, rule, inode, block)?,
+        }),
+        Err(SeeFault::Unbuilt) => Ok(Answer {
+            status: Status::Unbuilt,
+            text: unbuilt_line(alloc)?,
+        }),
+        Err(SeeFault::Read) => Err(Fault::Read),
+        Err(SeeFault::Memory) => Err(Fault::Memory),
     }
 }
 
-fn unbuilt(alloc: Global) -> Result<Answer, OutOfMemory>
-    ensures { IfOk result (λ answer. (answer.status ≡ Status.Unbuilt) × (answer.text.items ≡ unbuilt_line)) }
+/// The text of a reply.
+fn text_of(alloc: Global, reply: &Reply) -> Result<Vec<u8>, OutOfMemory>
+    ensures { IfOk result (λ text. text.items ≡ reply_text (reply_of reply.now)) }
 {
-    Ok(Answer {
-        status: Status::Unbuilt,
-        text: told_text::unbuilt(alloc)?,
-    })
+    let mut text = Vec::new(alloc);
+    reply.write(alloc, &mut text)?;
+    Ok(text)
 }

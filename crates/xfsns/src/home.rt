@@ -1,21 +1,27 @@
-//! Reading the home sectors of an image.
+//! The superblock of an image, and what a command answers of the image by it.
 
-ghost use Rattle.std.specs.Prelude.{◌≡◌, ◌*◌, ◌+◌, ◌≤◌, length, IfSome, IfOk, IsErr, OnErr, OnOk, MatchOption, Some};
-ghost use Rattle.xn_bytes.specs.Causes.{Rose, counted};
-ghost use Rattle.xn_bytes.specs.Outcome.{HasSuperblock};
-ghost use Rattle.xn_bytes.specs.Superblock.{IsInode};
-ghost use Rattle.xn_bytes.specs.Inode.{inode_of};
-ghost use Rattle.xfsns.specs.Home.{KeepsImage, FindsSuper};
+ghost use Rattle.std.specs.Prelude.{◌+◌, ◌-◌, ◌≤◌, IfOk, IfSome, OnErr};
+ghost use Rattle.xn_bytes.specs.Causes.{Rose};
+ghost use Rattle.xn_inode.specs.Stores.{KeepsStore};
+ghost use Rattle.xn_ns.specs.Ends.{Answered};
+ghost use Rattle.xn_replay.specs.Viewed.{IsSeen, MachineStays};
+ghost use Rattle.xfsns.specs.Answer.{EndsWith, DueFor, most_reads};
+ghost use Rattle.xfsns.specs.Home.{FindsSuper, home_view};
 
-use xn_inode::Super;
+use std::alloc::Global;
+use xn_inode::{Store, Super};
 use xn_machine::{Failed, Machine};
+use xn_ns::{SeeFault, list, resolve};
+use xn_replay::{Seen, View};
+use xn_text::{Reply, Words};
 
 /// Reads the superblock; None where it isn't accepted.
 pub fn read_super<M: Machine>(machine: &mut M) -> Result<Option<Super>, Failed>
-    ensures kept { KeepsImage M.image M.told M.sector_count M.read_faults M.write_faults M.say_faults machine.old machine.new }
+    ensures stays { MachineStays M.image M.told M.sector_count M.read_faults M.write_faults M.say_faults machine.old machine.new }
     ensures reads { M.reads machine.new ≤ M.reads machine.old + 1 }
     ensures cause { OnErr result (Rose (M.read_faults machine.old) (M.read_faults machine.new)) }
-    ensures found { IfOk result (λ found. FindsSuper (M.image machine.old) (M.sector_count machine.old) found) }
+    ensures found { IfOk result (FindsSuper (M.image machine.old)) }
+    ensures seen { IfOk result (λ found. IfSome found (λ geometry. IsSeen (home_view geometry) (M.image machine.new) (M.sector_count machine.new) (M.read_faults machine.new) (M.reads machine.new))) }
 {
     let sectors = machine.sectors();
     if sectors == 0 {
@@ -26,20 +32,36 @@ pub fn read_super<M: Machine>(machine: &mut M) -> Result<Option<Super>, Failed>
     Ok(Super::read(&sector, sectors).ok())
 }
 
-/// Reads an inode's bytes.
-pub fn read_inode<M: Machine>(
+/// What a command says of the image whose superblock was read.
+pub fn ask_image<M: Machine>(
+    alloc: Global,
     machine: &mut M,
     geometry: &Super,
-    ino: u64,
-) -> Result<[u8; 512], Failed>
-    requires place { IsInode geometry.now ino }
-    requires whole { 8 * geometry.now.data_blocks ≤ M.sector_count machine.old }
-    ensures kept { KeepsImage M.image M.told M.sector_count M.read_faults M.write_faults M.say_faults machine.old machine.new }
-    ensures reads { M.reads machine.new ≤ M.reads machine.old + 1 }
-    ensures cause { OnErr result (Rose (M.read_faults machine.old) (M.read_faults machine.new)) }
-    ensures bytes { IfOk result (λ inode. IfSome (M.image machine.old) (λ x. inode ≡ inode_of geometry.now x ino)) }
+    command: &Words,
+) -> Result<Reply, SeeFault>
+    requires { IsSeen (home_view geometry.now) (M.image machine.old) (M.sector_count machine.old) (M.read_faults machine.old) (M.reads machine.old) }
+    ensures stays { MachineStays M.image M.told M.sector_count M.read_faults M.write_faults M.say_faults machine.old machine.new }
+    ensures reads { M.reads machine.new ≤ M.reads machine.old + most_reads command.now }
+    ensures answered { Answered (EndsWith command.now geometry.now) (DueFor command.now geometry.now) (M.image machine.old) (M.read_faults machine.old) (M.read_faults machine.new) (M.reads machine.new - M.reads machine.old) result }
 {
-    let mut inode = [0; 512];
-    machine.read(geometry.sector_of_inode(ino), &mut inode)?;
-    Ok(inode)
+    let mut view = View::home(alloc, geometry);
+    let mut seen = Seen {
+        view: &mut view,
+        machine,
+    };
+    ask(alloc, &mut seen, command)
+}
+
+/// What a command says of a store.
+fn ask<S: Store>(alloc: Global, store: &mut S, command: &Words) -> Result<Reply, SeeFault>
+    requires { S.IsWhole store.old }
+    ensures answered { Answered (EndsWith command.now (S.shape store.old)) (DueFor command.now (S.shape store.old)) (S.image store.old) (S.faults store.old) (S.faults store.new) (S.fetches store.new - S.fetches store.old) result }
+    ensures keeps { KeepsStore S.image S.shape S.IsWhole S.pool S.free S.references store.old store.new }
+    ensures only_read { S.OnlyRead store.old store.new }
+    ensures fetches { S.fetches store.new ≤ S.fetches store.old + most_reads command.now }
+{
+    match command {
+        Words::List { ino } => list(alloc, store, *ino),
+        Words::Resolve { path } => resolve(alloc, store, path.as_slice()),
+    }
 }

@@ -1,14 +1,11 @@
-//! `xfsns` reads the names of an XFS version 5 image: `xfsns list IMAGE MANIFEST INO` lists a directory.
+//! `xfsns` reads the names of an XFS version 5 image: `xfsns list IMAGE MANIFEST INO` lists a directory, and
+//! `xfsns resolve IMAGE MANIFEST PATH` walks a path from the root.
 #![tactic(auto)]
 
 mod answer;
 mod files;
 mod home;
-mod listing;
-mod plain;
-mod told_text;
 mod top;
-mod words;
 
 use files::{FileMachine, FileSource};
 use std::env::Env;
@@ -17,9 +14,9 @@ use std::io::ErrorKind;
 use std::process::ExitCode;
 use std::{env, io};
 use top::xfsns;
-use words::Words;
 use xn_bytes::Status;
 use xn_machine::MemSource;
+use xn_text::{Words, WordsFault};
 
 /// The exit status where a file can't be opened.
 const CANNOT_OPEN: u8 = 10;
@@ -31,9 +28,10 @@ fn main(rt: HostRuntime) -> ExitCode {
 /// Opens what the words name and makes the program's one call.
 fn run<R: Env + Files + Input + Print + Eprint + AllocGlobal>(rt: &R) -> u8 {
     match arguments(rt) {
-        Ok(words) => match Words::read(&words) {
-            Some(_) => run_on_files(rt, &words),
-            None => run_without_files(rt, &words),
+        Ok(words) => match Words::read(rt.alloc(), &words) {
+            Ok(_) => run_on_files(rt, &words),
+            Err(WordsFault::Usage) => run_without_files(rt, &words),
+            Err(WordsFault::Memory) => Status::Memory.number(),
         },
         Err(_) => Status::Memory.number(),
     }
@@ -91,7 +89,5 @@ fn cannot_open<R: Eprint>(rt: &R, word: &str) -> u8 {
     CANNOT_OPEN
 }
 
-#[cfg(test)]
-mod directory_tests;
 #[cfg(test)]
 mod tests;

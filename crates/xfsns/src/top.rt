@@ -1,7 +1,9 @@
 //! The program's one call: words, machine and sources in, a status out.
 
-ghost use Rattle.std.specs.Prelude.{◌≡◌, ◌+◌, ◌≤◌, ◌*◌, map, string_bytes};
+ghost use Rattle.std.specs.Prelude.{◌≡◌, ℕ, ◌+◌, ◌*◌, ◌≤◌, List, length, map, string_bytes};
 ghost use Rattle.xn_bytes.specs.Outcome.{Outcome, outside_of};
+ghost use Rattle.xn_bytes.specs.Paths.{parts_of};
+ghost use Rattle.xn_bytes.specs.Words.{AsksList, AsksResolve, AsksNothing};
 ghost use Rattle.xfsns.specs.Top.{TellsOrFails};
 
 use crate::answer::{Answer, Fault, answer_words};
@@ -11,8 +13,9 @@ use xn_machine::{Machine, Source};
 
 /// Answers the words after the program's name over the machine's image, and tells the answer on its output.
 ///
-/// `list IMAGE MANIFEST INO` lists a directory in short form. The two files are the machine's and the manifest's; neither
-/// the manifest nor the script is read.
+/// `list IMAGE MANIFEST INO` lists a directory in short or block form. `resolve IMAGE MANIFEST PATH` walks a path from the
+/// root and tells the inode to which it leads. The two files are the machine's and the manifest's; neither the manifest nor
+/// the script is read.
 pub fn xfsns<M: Machine, F: Source, S: Source>(
     alloc: Global,
     words: &[String],
@@ -27,13 +30,17 @@ pub fn xfsns<M: Machine, F: Source, S: Source>(
         (outside_of M.image M.told M.reads M.read_faults M.say_faults machine.new)
         result }
 
-    // The image stays as it is, at most two sectors are read, and no count of faults falls.
+    // The image stays as it is, and no count of faults falls.
     ensures image { M.image machine.new ≡ M.image machine.old }
     ensures sectors { M.sector_count machine.new ≡ M.sector_count machine.old }
-    ensures reads { M.reads machine.new ≤ M.reads machine.old + 2 }
     ensures read_faults { M.read_faults machine.old ≤ M.read_faults machine.new }
     ensures write_faults { M.write_faults machine.old ≤ M.write_faults machine.new }
     ensures say_faults { M.say_faults machine.old ≤ M.say_faults machine.new }
+
+    // The superblock is read once at most; a list reads three times more at most, and so does each part of a path.
+    ensures reads_list { (ino : ℕ) → AsksList (map string_bytes words.now) ino → M.reads machine.new ≤ M.reads machine.old + 4 }
+    ensures reads_resolve { (path : List ℕ) → AsksResolve (map string_bytes words.now) path → M.reads machine.new ≤ M.reads machine.old + 1 + 3 * length (parts_of path) }
+    ensures reads_nothing { AsksNothing (map string_bytes words.now) → M.reads machine.new ≡ M.reads machine.old }
 
     // The sources are not read.
     ensures manifest { _manifest.new ≡ _manifest.old }

@@ -1,33 +1,24 @@
 //! Directories of whole images, read through a view over a machine in memory.
 
-ghost use Rattle.std.specs.Prelude.{◌≡◌, ◌≤◌, length, true, IfOk, IfSome};
+ghost use Rattle.std.specs.Prelude.{◌≡◌, true, IfOk, IfSome};
 ghost use Rattle.xn_bytes.specs.Superblock.{IsInode};
 ghost use Rattle.xn_bytes.specs.Inode.{inode_of};
 ghost use Rattle.xn_inode.specs.Stores.{KeepsStore};
 ghost use Rattle.xn_dir.specs.Inodes.{IsDirectory};
 ghost use Rattle.xn_replay.specs.Viewed.{IsSeen};
 
+use super::images::{Change, DIRECTORY_START, INODE_START, changed, image_naming, put};
 use std::alloc::Global;
 use std::test::Fail;
-use xn_bytes::{Kind, Name, put_checksum, u16_at};
+use xn_bytes::{Kind, Name, u16_at};
 use xn_dir::{Dir, Entry, Listed};
 use xn_inode::{ForkFault, Store, StoreFault, Super};
 use xn_machine::{Machine, MemMachine};
-use xn_make::{DATA_FORK, DIRECTORY_BLOCK, Named, ROOT, block_directory, block_image};
+use xn_make::{ROOT, block_image};
 use xn_replay::{Seen, View};
 
 /// As many calls as the answers may take: one for the superblock, one for the inode's mode, and two for each answer.
 const CALLS: u64 = 8;
-
-const BLOCK_BYTES: usize = 4096;
-
-/// Where the blocks of the root directory and of its inode begin.
-const DIRECTORY_START: usize = 163_840;
-
-const INODE_START: usize = 65_536;
-
-/// Bytes, and the place at which they are put.
-type Change = (usize, &'static [u8]);
 
 /// What is said of a directory.
 #[derive(Drop)]
@@ -97,77 +88,6 @@ fn ask_image(alloc: Global, image: Vec<u8>, name: &[u8]) -> Result<Answers, Fail
         machine: &mut machine,
     };
     ask(alloc, &mut seen, &name)
-}
-
-/// Puts bytes at a place.
-fn put(bytes: &mut [u8], at: usize, piece: &[u8]) -> Result<(), Fail>
-    ensures { length bytes.new ≡ length bytes.old }
-{
-    if bytes.len() < piece.len() || bytes.len() - piece.len() < at {
-        return Err(Fail::from("the place is past the end"));
-    }
-    bytes[at..at + piece.len()].copy_from_slice(piece);
-    Ok(())
-}
-
-fn put_all(block: &mut [u8; BLOCK_BYTES], changes: &[Change]) -> Result<(), Fail> {
-    for (at, bytes) in changes.iter() {
-        put(block, *at, bytes)?;
-    }
-    Ok(())
-}
-
-/// Puts the checksum of the directory's block, or of the inode in front of its block.
-fn put_own_checksum(block: &mut [u8; BLOCK_BYTES], start: usize) {
-    if start == INODE_START {
-        put_checksum(&mut block[..512], 100);
-    } else {
-        put_checksum(block, 4);
-    }
-}
-
-/// The block of an image that begins at a place.
-fn block_at(image: &[u8], start: usize) -> Result<[u8; BLOCK_BYTES], Fail> {
-    let mut block = [0; BLOCK_BYTES];
-    if image.len() < BLOCK_BYTES || image.len() - BLOCK_BYTES < start {
-        return Err(Fail::from("the block is past the image"));
-    }
-    block.copy_from_slice(&image[start..start + BLOCK_BYTES]);
-    Ok(block)
-}
-
-/// The image whose root is in block form, with changes in the block that begins at a place.
-fn image_with(alloc: Global, start: usize, changes: &[Change]) -> Result<Vec<u8>, Fail> {
-    let mut image = block_image(alloc)?;
-    let mut block = block_at(&image, start)?;
-    put_all(&mut block, changes)?;
-    put_own_checksum(&mut block, start);
-    put(&mut image, start, &block)?;
-    Ok(image)
-}
-
-/// The image whose root is in block form, and names the files 144 and 145 so.
-#[tactic(auto, unfolding(xn_make::specs::Directories::total_length))]
-fn image_naming(alloc: Global, first: &[u8], second: &[u8]) -> Result<Vec<u8>, Fail>
-    requires first { length first.now ≤ 10 }
-    requires second { length second.now ≤ 10 }
-{
-    let entries = [file_named(first, 144), file_named(second, 145)];
-    let block = block_directory(alloc, DIRECTORY_BLOCK, ROOT, ROOT, &entries)?;
-    let mut image = block_image(alloc)?;
-    put(&mut image, DIRECTORY_START, &block)?;
-    Ok(image)
-}
-
-fn file_named(name: &[u8], ino: u64) -> Named<'_>
-    ensures name { result.name.now ≡ name.now }
-    ensures number { result.ino ≡ ino }
-{
-    Named {
-        name,
-        ino,
-        kind: Kind::Reg,
-    }
 }
 
 fn file_at(position: u64, ino: u64) -> Option<Entry> {
@@ -322,7 +242,7 @@ fn broken_blocks(rt: HostRuntime) -> Result<(), Fail> {
         ),
     ];
     for (what, changes, rule, block) in cases {
-        let image = image_with(alloc, DIRECTORY_START, changes)?;
+        let image = changed(block_image(alloc)?, DIRECTORY_START, changes)?;
         let answers = ask_image(alloc, image, b"entry-0001")?;
         assert_eq!(rt; answers.listed.err(), Some(broken(rule, block)), "{what}");
     }
@@ -332,7 +252,11 @@ fn broken_blocks(rt: HostRuntime) -> Result<(), Fail> {
 #[test]
 fn a_look_up_meets_a_leaf_entry_that_names_no_entry(rt: HostRuntime) -> Result<(), Fail> {
     let alloc = rt.alloc();
-    let image = image_with(alloc, DIRECTORY_START, &[(4012, &[0, 0, 0, 45])])?;
+    let image = changed(
+        block_image(alloc)?,
+        DIRECTORY_START,
+        &[(4012, &[0, 0, 0, 45])],
+    )?;
     let answers = ask_image(alloc, image, b"entry-0011")?;
     assert_eq!(rt; answers.found, Err(broken(19, 0)));
     Ok(())
@@ -360,7 +284,7 @@ fn broken_inodes(rt: HostRuntime) -> Result<(), Fail> {
         (62, &[0], 15),
     ];
     for (at, bytes, rule) in cases {
-        let image = image_with(alloc, INODE_START, &[(at, bytes)])?;
+        let image = changed(block_image(alloc)?, INODE_START, &[(at, bytes)])?;
         let answers = ask_image(alloc, image, b"none")?;
         let fault = broken(rule, 0);
         assert_eq!(rt; answers.listed.err(), Some(fault), "byte {at}");

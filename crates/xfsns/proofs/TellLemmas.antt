@@ -1,0 +1,77 @@
+-- An answer that was told, whole or in part, is the outcome.
+use Rattle.std.proofs.Common.{◌≡◌, ℕ, ◌≤◌, List, ◌++◌, take, Option, Some, None, inl, inr, sym, subst, ◌∙◌, ap, arith}
+use Rattle.std.specs.Prelude.{MatchOption, option_map, ◌⊎◌}
+use Rattle.xn_bytes.specs.declared.status.Status.{Status}
+use Rattle.xn_bytes.specs.declared.status.Status.TheVariants.{Done, Usage, Image, ReadFault, SayFault, Memory, Unbuilt}
+use Rattle.xn_bytes.specs.Causes.{Rose}
+use Rattle.xn_bytes.specs.NameSpace.{End, Says, Breaks, Beyond}
+use Rattle.xn_bytes.specs.Reading.{ListEnds, ResolveEnds}
+use Rattle.xn_bytes.specs.Outcome.{Answers, Reads, end_status, Outside, Tells, Outcome, FailsToSay}
+use Rattle.xn_bytes.specs.Superblock.{Geometry}
+use Rattle.xn_machine.specs.Device.{TellsFront}
+
+-- ---- no answer has the status of a fault
+
+abbrev IsAnswered : Status → Type 0
+IsAnswered Done = Unit {0}
+IsAnswered Usage = Unit {0}
+IsAnswered Image = Unit {0}
+IsAnswered ReadFault = ⊥
+IsAnswered SayFault = ⊥
+IsAnswered Memory = ⊥
+IsAnswered Unbuilt = Unit {0}
+
+end_is_answered : (end : End) → IsAnswered (end_status end)
+end_is_answered (Says reply) = tt
+end_is_answered (Breaks inode rule block) = tt
+end_is_answered Beyond = tt
+
+reads_answered : (E : Geometry → List ℕ → End → Type 0) (image : Option (List ℕ)) (status : Status) (text : List ℕ) → Reads E image status text → IsAnswered status
+reads_answered E image status text reads = elim reads [
+  | inl none ↦ subst IsAnswered (sym none.0) tt
+  | inr end ↦ subst IsAnswered (sym end.1) (end_is_answered end.0)
+]
+
+is_answered : (words : List (List ℕ)) (image : Option (List ℕ)) (status : Status) (text : List ℕ) → Answers words image status text → IsAnswered status
+is_answered words image status text answer = elim answer [
+  | inl usage ↦ subst IsAnswered (sym usage.is_usage) tt
+  | inr (inl list) ↦ reads_answered (λ g. ListEnds g list.0) image status text list.2
+  | inr (inr walk) ↦ reads_answered (λ g. ResolveEnds g walk.0) image status text walk.2
+]
+
+-- ---- what is told
+
+tells : (before now : Option (List ℕ)) (bytes : List ℕ) → now ≡ option_map (λ told. told ++ bytes) before → MatchOption before (now ≡ None) (λ told. now ≡ Some (told ++ bytes))
+tells None now bytes same = same
+tells (Some told) now bytes same = same
+
+told_whole : (words : List (List ℕ)) (before now : Outside) (status : Status) (text : List ℕ) → Answers words before.image status text → IsAnswered status → Tells before now text → Outcome words before now status
+told_whole words before now Done text answer is whole = (text, answer, whole)
+told_whole words before now Usage text answer is whole = (text, answer, whole)
+told_whole words before now Image text answer is whole = (text, answer, whole)
+told_whole words before now ReadFault text answer is whole = absurd is
+told_whole words before now SayFault text answer is whole = absurd is
+told_whole words before now Memory text answer is whole = absurd is
+told_whole words before now Unbuilt text answer is whole = (text, answer, whole)
+
+-- An answer over the image, told from a moment at which nothing was told yet.
+pub is_outcome : (words : List (List ℕ)) (before now : Outside) (status : Status) (text : List ℕ) (told : Option (List ℕ)) (faults : ℕ) (result : Status)
+    → Answers words before.image status text → told ≡ before.told → before.say_faults ≤ faults
+    → ((result ≡ status) × (now.told ≡ option_map (λ t. t ++ text) told)) ⊎ ((result ≡ SayFault) × Rose faults now.say_faults × TellsFront told now.told text)
+    → Outcome words before now result
+is_outcome words before now status text told faults result answer same later ends = elim ends [
+  | inl whole ↦
+      subst (Outcome words before now) (sym whole.0)
+      (told_whole words before now status text answer (is_answered words before.image status text answer)
+      (tells before.told now.told text (whole.1 ∙ ap (option_map (λ t. t ++ text)) same)))
+  | inr front ↦
+      let fails : FailsToSay words before now = record {
+        rose = let r = front.1 in omega arith;
+        status = status;
+        text = text;
+        answer = answer;
+        count = front.2.0;
+        front = tells before.told now.told (take front.2.0 text) (front.2.1 ∙ ap (option_map (λ t. t ++ take front.2.0 text)) same);
+      } in
+      subst (Outcome words before now) (sym front.0) fails
+]

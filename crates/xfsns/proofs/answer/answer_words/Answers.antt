@@ -1,0 +1,19 @@
+use Rattle.std.proofs.lemmas.Result.{IfOk-weaker, IfErr-weaker}
+use Rattle.xfsns.proofs.AnswerLemmas.{answers_words, reads_for}
+use Rattle.xfsns.proofs.CauseLemmas.{cause_for_words}
+use Rattle.xfsns.proofs.answer.answer_words.Goals as goal
+
+pub returns-in-Ok-clause-reads : goal.returns-in-Ok-clause-reads
+returns-in-Ok-clause-reads g c = reads_for _ c.in-Ok.command _ _ c.in-Ok.ensures.ok c.answer_command.ensures.reads
+
+pub returns-in-Ok-clause-answer : goal.returns-in-Ok-clause-answer
+returns-in-Ok-clause-answer g c =
+    IfOk-weaker c.answer_command.result _ _
+    (λ answer reads. answers_words _ c.in-Ok.command _ answer.status answer.text.items c.in-Ok.ensures.ok reads)
+    c.answer_command.ensures.answer
+
+pub returns-in-Ok-clause-cause : goal.returns-in-Ok-clause-cause
+returns-in-Ok-clause-cause g c =
+    IfErr-weaker c.answer_command.result _ _
+    (λ fault cause. cause_for_words _ c.in-Ok.command g.M.Machine.image g.M.Machine.reads g.M.Machine.read_faults c.args.machine.now c.answer_command.new.machine fault c.in-Ok.ensures.ok cause)
+    c.answer_command.ensures.cause
