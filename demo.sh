@@ -1,5 +1,5 @@
 #!/usr/bin/env bash
-# Builds the program, makes two small images in the folder demo/, and lists the root directory of the first.
+# Builds the program, makes two small images in the folder demo/, lists their root directories and resolves two paths.
 set -eu
 top=$(cd "$(dirname "$0")" && pwd)
 mkdir -p "$top/demo"
@@ -17,5 +17,14 @@ rm -f "$top/crates/xn_demo/"*.img "$top/crates/xn_demo/"*.manifest
 xfsns=$(build xfsns)
 cd "$top/demo"
 "$make_demo"
-echo "\$ xfsns list demo.img demo.manifest 128"
-"$xfsns" list demo.img demo.manifest 128
+
+# Shows a command, and what it tells.
+show() {
+    echo "\$ xfsns $*"
+    "$xfsns" "$@"
+}
+
+show list demo.img demo.manifest 128
+show resolve demo.img demo.manifest '/caf\c3\a9/menu'
+show list block.img block.manifest 128
+show resolve block.img block.manifest /entry-0003
