@@ -1,5 +1,5 @@
 -- What the program answers: one relation from its words and the image to its status and what it tells.
-use Rattle.std.specs.Prelude.{◌≡◌, ◌⊎◌, ℕ, ◌+◌, ◌-◌, ◌/◌, ◌≤◌, List, [], ◌++◌, length, take, Option, Some, None, IfSome, MatchOption}
+use Rattle.std.specs.Prelude.{◌≡◌, ◌⊎◌, ℕ, ◌/◌, List, [], ◌++◌, length, take, Option, Some, None, IfSome, MatchOption}
 use Rattle.xn_bytes.specs.declared.status.Status.{Status}
 use Rattle.xn_bytes.specs.declared.status.Status.TheVariants.{Done, Usage, Image, ReadFault, SayFault, Memory, Unbuilt}
 use Rattle.xn_bytes.specs.Numbers.{sector_of}
@@ -8,7 +8,7 @@ use Rattle.xn_bytes.specs.Superblock.{Geometry, geometry_of, IsSuperblock}
 use Rattle.xn_bytes.specs.Words.{AsksList, AsksResolve, AsksNothing}
 use Rattle.xn_bytes.specs.Replies.{usage_line, unbuilt_line, image_line, reply_text}
 use Rattle.xn_bytes.specs.NameSpace.{End, Says, Breaks, Beyond}
-use Rattle.xn_bytes.specs.Reading.{ListEnds, ResolveEnds, ListReads, ResolveReads}
+use Rattle.xn_bytes.specs.Reading.{ListEnds, ResolveEnds}
 
 -- ---- the image
 
@@ -64,14 +64,13 @@ AsksToRead words = ((ino : ℕ) × AsksList words ino) ⊎ ((path : List ℕ) ×
 pub record Outside : Type 0 where
   pub image : Option (List ℕ)
   pub told : Option (List ℕ)
-  pub reads : ℕ
   pub read_faults : ℕ
   pub say_faults : ℕ
 
 -- the machine seen so
-abbrev pub outside_of : {M : Type 0} → (M → Option (List ℕ)) → (M → Option (List ℕ)) → (M → ℕ) → (M → ℕ) → (M → ℕ) → M → Outside
-outside_of image told reads read_faults say_faults machine =
-    record { image = image machine; told = told machine; reads = reads machine; read_faults = read_faults machine; say_faults = say_faults machine }
+abbrev pub outside_of : {M : Type 0} → (M → Option (List ℕ)) → (M → Option (List ℕ)) → (M → ℕ) → (M → ℕ) → M → Outside
+outside_of image told read_faults say_faults machine =
+    record { image = image machine; told = told machine; read_faults = read_faults machine; say_faults = say_faults machine }
 
 -- these bytes were told, and no others
 abbrev pub Tells : Outside → Outside → List ℕ → Type 0
@@ -81,18 +80,10 @@ Tells before now bytes = MatchOption before.told (now.told ≡ None) (λ told. n
 abbrev pub TellsAnswer : List (List ℕ) → Outside → Outside → Status → Type 0
 TellsAnswer words before now status = (text : List ℕ) × Answers words before.image status text × Tells before now text
 
--- The command reads from an image, beside the superblock, so many times.
-abbrev pub IsDue : List (List ℕ) → List ℕ → ℕ → Type 0
-IsDue words image count =
-    ((ino : ℕ) × AsksList words ino × ListReads (geometry_in image) ino image count)
-    ⊎ ((path : List ℕ) × AsksResolve words path × ResolveReads (geometry_in image) path image count)
-
--- Reading failed: words of a form were there, and no more was read than the superblock, or, where that is accepted, than
--- the command reads from the image.
+-- Reading failed: the words ask to read, and nothing was told.
 pub record FailsToRead (words : List (List ℕ)) (before now : Outside) : Type 0 where
   pub asks : AsksToRead words
   pub rose : Rose before.read_faults now.read_faults
-  pub due : IfSome before.image (λ x. (now.reads ≤ before.reads + 1) ⊎ (HasSuperblock x × IsDue words x (now.reads - (before.reads + 1))))
   pub silent : Tells before now []
 
 -- Telling that failed: a front of an answer was told.

@@ -1,5 +1,5 @@
 -- What the reading commands `list` and `resolve` answer of an image.
-use Rattle.std.specs.Prelude.{◌≡◌, ◌≢◌, ◌⊎◌, ℕ, ◌+◌, ◌*◌, ◌≤◌, List, ◌∷◌, ◌++◌, length, map, All, Contains, Option, Some, None, IfSome}
+use Rattle.std.specs.Prelude.{◌≡◌, ◌≢◌, ◌⊎◌, ℕ, List, map, All, Contains, Option, Some, None, IfSome}
 use Rattle.xn_bytes.specs.declared.kind.Kind.TheVariants.{Dir}
 use Rattle.xn_bytes.specs.declared.errno.Errno.TheVariants.{ENOENT, ENOTDIR}
 use Rattle.xn_bytes.specs.Numbers.{number_at}
@@ -13,7 +13,7 @@ use Rattle.xn_bytes.specs.DirectoryForms.{DirHolds, EntriesStand, IsIndexed}
 use Rattle.xn_bytes.specs.DirectoryRules.{DirBreaks, IsUnbuilt, IsBuilt}
 use Rattle.xn_bytes.specs.Replies.{ListOf, ErrorOf, line_of}
 use Rattle.xn_bytes.specs.Paths.{parts_of}
-use Rattle.xn_bytes.specs.NameSpace.{End, Says, Breaks, Beyond, Place, NameMap, Step, Ends, Walks, Reaches, part_error, step_to}
+use Rattle.xn_bytes.specs.NameSpace.{End, Says, Breaks, Beyond, Place, NameMap, Step, Ends, Walks, part_error, step_to}
 
 -- ---- inodes
 
@@ -132,27 +132,6 @@ root_place g = record { ino = g.root; kind = Dir }
 -- what `resolve` answers of a path: the end of the walk of its parts from the root
 abbrev pub ResolveEnds : Geometry → List ℕ → List ℕ → End → Type 0
 ResolveEnds g path image end = Walks (TakesInImage g image) (root_place g) (parts_of path) end
-
--- ---- reads
-
--- Beside the superblock `list` reads the inode where it is live; and after this one more only where it is an attached
--- directory's.
-pub record ListReads (g : Geometry) (ino : ℕ) (image : List ℕ) (count : ℕ) : Type 0 where
-  pub live : IsLive g ino
-  pub more : (count ≤ 1) ⊎ IsAttached g (inode_of g image ino) ino
-
--- `resolve` reads where its walk has come to a live inode that an entry calls a directory, with a part left; at most three
--- times for each part up to this one.
-pub record ResolveReads (g : Geometry) (path image : List ℕ) (count : ℕ) : Type 0 where
-  pub taken : List (List ℕ)
-  pub part : List ℕ
-  pub parts : List (List ℕ)
-  pub path_is : parts_of path ≡ taken ++ (part ∷ parts)
-  pub here : Place
-  pub reached : Reaches (TakesInImage g image) (root_place g) taken here
-  pub kind : here.kind ≡ Dir
-  pub live : IsLive g here.ino
-  pub few : count ≤ 3 * (length taken + 1)
 
 -- ---- the map of an image
 
