@@ -5,3 +5,4 @@ pub mod Memory
 pub mod MemoryFields
 pub mod MemorySource
 pub mod MemorySourceFields
+pub mod Frames
