@@ -1,3 +1,4 @@
+pub mod Frames
 pub mod HomeRuns
 pub mod Runs
 pub mod Records

@@ -48,12 +48,3 @@ pub record IsTaken (near : Option ℕ) (old new : List ℕ) (block : ℕ) : Type
 abbrev pub IsGiven : List ℕ → List ℕ → List ℕ → ℕ → Type 0
 IsGiven pool old new block = (other : ℕ) → Contains new other ↔ (Contains old other ⊎ (Contains pool other × (other ≡ block)))
 
--- A store that was read: image, superblock, pool and free blocks are as before, it is whole, and it holds the same
--- references.
-pub record KeepsStore {S : Type 0} (image : S → Option (List ℕ)) (shape : S → Geometry) (IsWhole : S → Type 0) (pool free references : S → List ℕ) (old new : S) : Type 0 where
-  pub image_stays : image new ≡ image old
-  pub shape_stays : shape new ≡ shape old
-  pub pool_stays : pool new ≡ pool old
-  pub free_stays : free new ≡ free old
-  pub is_whole : IsWhole new
-  pub references_stay : references new ≡ references old
