@@ -24,7 +24,7 @@ pub fn fill<M: Machine>(
     ensures fault { IfErr result (λ fault. fault ≡ StoreFault.Read) }
     ensures fetches { IsOneMore (M.reads machine.old) (M.reads machine.new) }
     ensures none { AreAllKept view.now.kept first (length into.old / 512) → M.reads machine.new ≡ M.reads machine.old }
-    ensures only_read { WasOnlyRead M.image M.told M.sector_count M.read_faults M.write_faults M.say_faults view.now view.now machine.old machine.new }
+    ensures only_read { WasOnlyRead M.Machine view.now view.now machine.old machine.new }
     ensures whole { IsSeen view.now (M.image machine.new) (M.sector_count machine.new) (M.read_faults machine.new) (M.reads machine.new) }
 {
     if !view.has_all(first, into.len() / SECTOR_SIZE) {

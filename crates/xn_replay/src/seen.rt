@@ -13,7 +13,8 @@ pub struct Seen<'v, 'm, M: Machine> {
 impl<M: Machine> Store for Seen<'_, '_, M> {
     ghost use Rattle.std.specs.Prelude.{◌≡◌, ◌∷◌, [], option_map};
     ghost use Rattle.xn_replay.specs.Overlay.{shown};
-    ghost use Rattle.xn_replay.specs.Viewed.{IsSeen, MachineStays, WasOnlyRead, read_at_first, read_on, stays_on};
+    ghost use Rattle.xn_machine.specs.Frames.{MachineStays, stays_on};
+    ghost use Rattle.xn_replay.specs.Viewed.{IsSeen, WasOnlyRead, read_at_first, read_on};
 
     ghost image = { λ s. option_map (λ x. shown x s.view.now.kept) (M.image s.machine.now) };
 
@@ -31,17 +32,17 @@ impl<M: Machine> Store for Seen<'_, '_, M> {
 
     ghost references = { λ s. s.view.ghost_name ∷ s.machine.ghost_name ∷ [] };
 
-    ghost OnlyRead = { λ s t. WasOnlyRead M.image M.told M.sector_count M.read_faults M.write_faults M.say_faults s.view.now t.view.now s.machine.now t.machine.now };
+    ghost OnlyRead = { λ s t. WasOnlyRead M.Machine s.view.now t.view.now s.machine.now t.machine.now };
 
-    ghost OnlyCalled = { λ s t. MachineStays M.image M.told M.sector_count M.read_faults M.write_faults M.say_faults s.machine.now t.machine.now };
+    ghost OnlyCalled = { λ s t. MachineStays M.Machine s.machine.now t.machine.now };
 
-    ghost only_called_where_read = { λ s t only. only.machine };
+    ghost only_called_where_read = { λ s t only. only.machine_stays };
 
-    ghost only_called_on = { λ s t u. stays_on M.image M.told M.sector_count M.read_faults M.write_faults M.say_faults s.machine.now t.machine.now u.machine.now };
+    ghost only_called_on = { λ s t u. stays_on M.Machine s.machine.now t.machine.now u.machine.now };
 
-    ghost only_read_at_first = { λ s. read_at_first M.image M.told M.sector_count M.read_faults M.write_faults M.say_faults s.view.now s.machine.now };
+    ghost only_read_at_first = { λ s. read_at_first M.Machine s.view.now s.machine.now };
 
-    ghost only_read_on = { λ s t u. read_on M.image M.told M.sector_count M.read_faults M.write_faults M.say_faults s.view.now t.view.now u.view.now s.machine.now t.machine.now u.machine.now };
+    ghost only_read_on = { λ s t u. read_on M.Machine s.view.now t.view.now u.view.now s.machine.now t.machine.now u.machine.now };
 
     fn geometry(&self) -> &Super {
         self.view.geometry()

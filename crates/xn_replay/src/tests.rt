@@ -1,5 +1,6 @@
 ghost use Rattle.std.specs.Prelude.{◌≡◌, length, IfOk};
 ghost use Rattle.xn_bytes.specs.Superblock.{IsBlock};
+ghost use Rattle.xn_inode.specs.Frames.{StoreStays};
 ghost use Rattle.xn_replay.specs.Viewed.{IsSeen};
 
 use super::*;
@@ -44,8 +45,7 @@ fn twice<S: Store>(store: &mut S, block: u64, into: &mut [u8]) -> Result<(), Sto
     requires whole { S.IsWhole store.old }
     requires place { IsBlock (S.shape store.old) block }
     requires size { length into.old ≡ 4096 }
-    ensures only_read { S.OnlyRead store.old store.new }
-    ensures references { S.references store.new ≡ S.references store.old }
+    ensures { StoreStays S.Store store.old store.new }
 {
     store.block(block, into)?;
     store.block(block, into)
