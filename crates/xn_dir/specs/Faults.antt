@@ -9,6 +9,7 @@ use Rattle.xn_bytes.specs.DataBlock.{DataForm, entries_among}
 use Rattle.xn_bytes.specs.DirectoryForms.{HasTail, IsIndexOf}
 use Rattle.xn_inode.specs.declared.fork_fault.ForkFault.{ForkFault}
 use Rattle.xn_inode.specs.declared.fork_fault.ForkFault.TheVariants.{Read, Memory, Broken, Unbuilt}
+use Rattle.xn_inode.specs.declared.store.Store.{Ghosts}
 use Rattle.xn_dir.specs.Inodes.{IsDirectory}
 
 -- What the bytes of an inode break, whatever the blocks hold, where it is a directory's; or that the directory is in leaf
@@ -33,6 +34,10 @@ IsFaultOver g dir image before now Read = Rose before now
 IsFaultOver g dir image before now Memory = Unit {0}
 IsFaultOver g dir image before now (Broken rule block) = IfSome image (λ x. BreaksFirstRule g dir (inode_of g x dir) (block_of g x) rule block)
 IsFaultOver g dir image before now Unbuilt = IfSome image (λ x. IsUnbuilt g (inode_of g x dir) dir)
+
+-- the same over a store's image
+abbrev pub IsFaultOf : {S : Type 0} → Ghosts S → ℕ → S → S → ForkFault → Type 0
+IsFaultOf store dir old new = IsFaultOver (store.shape old) dir (store.image old) (store.faults old) (store.faults new)
 
 -- The first of the rules 15, 16 and 21 that a directory in short form breaks.
 abbrev pub IsShortFault : List ℕ → ForkFault → Type 0

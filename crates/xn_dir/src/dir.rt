@@ -8,9 +8,9 @@ ghost use Rattle.xn_bytes.specs.Directory.{HasNames};
 ghost use Rattle.xn_bytes.specs.Entries as held;
 ghost use Rattle.xn_bytes.specs.DirectoryForms.{DirHolds, EntriesStand, HasBlocksSize};
 ghost use Rattle.xn_bytes.specs.DirectoryRules.{IsBuilt};
-ghost use Rattle.xn_inode.specs.Stores.{KeepsStore, IsOneMore};
+ghost use Rattle.xn_inode.specs.Frames.{StoreStays};
 ghost use Rattle.xn_dir.specs.Inodes.{IsDirectory, IsSoundInode, IsOfForm};
-ghost use Rattle.xn_dir.specs.Faults.{IsFaultOver};
+ghost use Rattle.xn_dir.specs.Faults.{IsFaultOf};
 ghost use Rattle.xn_dir.specs.Listings.{entry_of};
 ghost use Rattle.xn_dir.specs.Finding.{FindsOver, StandsOver};
 ghost use Rattle.xn_dir.specs.declared.form.Form.TheVariants as forms;
@@ -46,11 +46,9 @@ impl Dir {
         ensures stands { IfOk result (λ found. IfSome (S.image store.old) (λ x. StandsOver (S.shape store.old) x dir name.now found)) }
         ensures found { IfOk result (λ found. IfSome (S.image store.old) (λ x. FindsOver (S.shape store.old) x dir name.now found)) }
         ensures built { IfOk result (λ _. IfSome (S.image store.old) (λ x. IsBuilt (S.shape store.old) (inode_of (S.shape store.old) x dir) dir)) }
-        ensures fault { IfErr result (IsFaultOver (S.shape store.old) dir (S.image store.old) (S.faults store.old) (S.faults store.new)) }
-        ensures keeps { KeepsStore S.image S.shape S.IsWhole S.pool S.free S.references store.old store.new }
-        ensures only_read { S.OnlyRead store.old store.new }
+        ensures fault { IfErr result (IsFaultOf S.Store dir store.old store.new) }
+        ensures stays { StoreStays S.Store store.old store.new }
         ensures fetches { S.fetches store.new ≤ S.fetches store.old + 2 }
-        ensures faults { S.faults store.old ≤ S.faults store.new }
     {
         let mut inode = [0; INODE_BYTES];
         let (core, form) = read_form(alloc, store, dir, &mut inode)?;
@@ -73,11 +71,9 @@ impl Dir {
         ensures holds { IfOk result (λ listed. IfSome (S.image store.old) (λ x. (dotdot : ℕ) × DirHolds (S.shape store.old) x dir (map entry_of listed.items) dotdot)) }
         ensures names { IfOk result (λ listed. HasNames (map entry_of listed.items)) }
         ensures built { IfOk result (λ _. IfSome (S.image store.old) (λ x. IsBuilt (S.shape store.old) (inode_of (S.shape store.old) x dir) dir)) }
-        ensures fault { IfErr result (IsFaultOver (S.shape store.old) dir (S.image store.old) (S.faults store.old) (S.faults store.new)) }
-        ensures keeps { KeepsStore S.image S.shape S.IsWhole S.pool S.free S.references store.old store.new }
-        ensures only_read { S.OnlyRead store.old store.new }
+        ensures fault { IfErr result (IsFaultOf S.Store dir store.old store.new) }
+        ensures stays { StoreStays S.Store store.old store.new }
         ensures fetches { S.fetches store.new ≤ S.fetches store.old + 2 }
-        ensures faults { S.faults store.old ≤ S.faults store.new }
     {
         let mut inode = [0; INODE_BYTES];
         let (core, form) = read_form(alloc, store, dir, &mut inode)?;
@@ -98,11 +94,9 @@ impl Dir {
         requires directory { IfSome (S.image store.old) (λ x. IsDirectory (inode_of (S.shape store.old) x dir)) }
         ensures parent { IfOk result (λ dotdot. IfSome (S.image store.old) (λ x. (entries : List held.Entry) × EntriesStand (S.shape store.old) x dir entries dotdot)) }
         ensures built { IfOk result (λ _. IfSome (S.image store.old) (λ x. IsBuilt (S.shape store.old) (inode_of (S.shape store.old) x dir) dir)) }
-        ensures fault { IfErr result (IsFaultOver (S.shape store.old) dir (S.image store.old) (S.faults store.old) (S.faults store.new)) }
-        ensures keeps { KeepsStore S.image S.shape S.IsWhole S.pool S.free S.references store.old store.new }
-        ensures only_read { S.OnlyRead store.old store.new }
+        ensures fault { IfErr result (IsFaultOf S.Store dir store.old store.new) }
+        ensures stays { StoreStays S.Store store.old store.new }
         ensures fetches { S.fetches store.new ≤ S.fetches store.old + 2 }
-        ensures faults { S.faults store.old ≤ S.faults store.new }
     {
         let mut inode = [0; INODE_BYTES];
         let (core, form) = read_form(alloc, store, dir, &mut inode)?;
@@ -130,11 +124,9 @@ fn read_form<S: Store>(
     ensures bytes { IfOk result (λ _. IfSome (S.image store.old) (λ x. inode.new ≡ inode_of (S.shape store.old) x dir)) }
     ensures sound { IfOk result (λ found. IsSoundInode (S.shape store.old) dir inode.new found.0) }
     ensures form { IfOk result (λ found. IsOfForm inode.new found.1) }
-    ensures fault { IfErr result (IsFaultOver (S.shape store.old) dir (S.image store.old) (S.faults store.old) (S.faults store.new)) }
-    ensures keeps { KeepsStore S.image S.shape S.IsWhole S.pool S.free S.references store.old store.new }
-    ensures only_read { S.OnlyRead store.old store.new }
-    ensures fetches { IsOneMore (S.fetches store.old) (S.fetches store.new) }
-    ensures faults { S.faults store.old ≤ S.faults store.new }
+    ensures fault { IfErr result (IsFaultOf S.Store dir store.old store.new) }
+    ensures stays { StoreStays S.Store store.old store.new }
+    ensures fetches { S.fetches store.new ≤ S.fetches store.old + 1 }
 {
     store.inode(dir, inode)?;
     form_of(alloc, store.geometry(), dir, inode)
@@ -156,11 +148,9 @@ fn read_block<S: Store>(
     ensures bytes { IfOk result (λ _. IfSome (S.image store.old) (λ x. bytes.new ≡ block_of (S.shape store.old) x block)) }
     ensures place { IfOk result (λ _. IsBlock (S.shape store.new) block) }
     ensures size { IfOk result (λ _. HasBlocksSize inode.now) }
-    ensures fault { IfErr result (IsFaultOver (S.shape store.old) dir (S.image store.old) (S.faults store.old) (S.faults store.new)) }
-    ensures keeps { KeepsStore S.image S.shape S.IsWhole S.pool S.free S.references store.old store.new }
-    ensures only_read { S.OnlyRead store.old store.new }
-    ensures fetches { IsOneMore (S.fetches store.old) (S.fetches store.new) }
-    ensures faults { S.faults store.old ≤ S.faults store.new }
+    ensures fault { IfErr result (IsFaultOf S.Store dir store.old store.new) }
+    ensures stays { StoreStays S.Store store.old store.new }
+    ensures fetches { S.fetches store.new ≤ S.fetches store.old + 1 }
 {
     if core.size() != BLOCK_BYTES as u64 {
         return Err(broken(15));

@@ -19,22 +19,22 @@ returns-in-Short-clause-fault g c =
 
 pub returns-in_ok-read_block-in-Block-clause-holds : goal.returns-in_ok-read_block-in-Block-clause-holds
 returns-in_ok-read_block-in-Block-clause-holds g c =
-    let keeps = c.in_ok-core.ensures.keeps in
+    let stays = c.in_ok-core.ensures.stays in
     let read = c.in_ok-read_block-in-Block.ensures in
-    let shape = c.geometry.ensures ∙ read.keeps.shape_stays ∙ keeps.shape_stays in
+    let shape = c.geometry.ensures ∙ read.stays.shape_stays ∙ stays.shape_stays in
     let form = rw c.in-Block.is at c.in_ok-core.ensures.form in
-    let shown = rw (keeps.image_stays, keeps.shape_stays) at read.bytes in
+    let shown = rw (stays.image_stays, stays.shape_stays) at read.bytes in
     IfOk-weaker c.list-in-Block.result _ _
     (λ listed holds. holds_block (g.S.Store.shape c.args.store.now) c.args.dir (g.S.Store.image c.args.store.now) c.read_form.new.inode c.read_block.new.bytes c.in-Block.block (map entry_of listed.items) c.in_ok-core.ensures.bytes shown form read.size holds)
     (rw shape at c.list-in-Block.ensures.holds)
 
 pub returns-in_ok-read_block-in-Block-clause-fault : goal.returns-in_ok-read_block-in-Block-clause-fault
 returns-in_ok-read_block-in-Block-clause-fault g c =
-    let keeps = c.in_ok-core.ensures.keeps in
+    let stays = c.in_ok-core.ensures.stays in
     let read = c.in_ok-read_block-in-Block.ensures in
-    let shape = c.geometry.ensures ∙ read.keeps.shape_stays ∙ keeps.shape_stays in
+    let shape = c.geometry.ensures ∙ read.stays.shape_stays ∙ stays.shape_stays in
     let form = rw c.in-Block.is at c.in_ok-core.ensures.form in
-    let shown = rw (keeps.image_stays, keeps.shape_stays) at read.bytes in
+    let shown = rw (stays.image_stays, stays.shape_stays) at read.bytes in
     IfErr-weaker c.list-in-Block.result _ _
     (λ fault is. over_first (g.S.Store.shape c.args.store.now) c.args.dir (g.S.Store.image c.args.store.now) c.read_form.new.inode c.read_block.new.bytes c.in_ok-core.core c.in-Block.block _ _ fault c.in_ok-core.ensures.bytes shown c.in_ok-core.ensures.sound form read.size is)
     (rw shape at c.list-in-Block.ensures.fault)
