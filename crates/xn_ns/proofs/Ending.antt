@@ -6,7 +6,7 @@ use Rattle.xn_bytes.specs.Causes.{Rose}
 use Rattle.xn_bytes.specs.Superblock.{Geometry}
 use Rattle.xn_bytes.specs.Inode.{inode_of}
 use Rattle.xn_bytes.specs.NameSpace.{End}
-use Rattle.xn_bytes.specs.Reading.{ListEnds, ListReads, ListsDirectory, IsAttached}
+use Rattle.xn_bytes.specs.Reading.{ListEnds, ListsDirectory, IsAttached}
 use Rattle.xn_inode.specs.declared.fork_fault.ForkFault.{ForkFault}
 use Rattle.xn_inode.specs.declared.fork_fault.ForkFault.TheVariants.{Read, Memory, Broken, Unbuilt}
 use Rattle.xn_dir.specs.Faults.{IsFaultOver}
@@ -14,19 +14,14 @@ use Rattle.xn_text.specs.declared.reply.Reply.{Reply}
 use Rattle.xn_ns.specs.declared.fault.SeeFault.{SeeFault}
 use Rattle.xn_ns.specs.Ends.{Answered, see_fault_in, end_of}
 
--- the list of an attached directory reads, however often
-abbrev DirectoryReads : Geometry → ℕ → List ℕ → ℕ → Type 0
-DirectoryReads g dir image count = IsAttached g (inode_of g image dir) dir
-
 -- a fault of the directory
-pub directory_fault : (g : Geometry) (dir : ℕ) (image : Option (List ℕ)) (before now fetched : ℕ) (fault : ForkFault) → IfSome image (λ x. IsAttached g (inode_of g x dir) dir) → IsFaultOver g dir image before now fault
-    → Answered (ListsDirectory g dir) (DirectoryReads g dir) image before now fetched (Err (see_fault_in dir fault))
-directory_fault g dir image before now fetched Read attached rose = record { ends = tt; cause = λ read. (rose, attached) }
-directory_fault g dir image before now fetched Memory attached free = record { ends = tt; cause = λ read. absurd cc }
-directory_fault g dir None before now fetched (Broken rule block) attached broken = record { ends = tt; cause = λ read. absurd cc }
-directory_fault g dir (Some x) before now fetched (Broken rule block) attached broken = record { ends = inr (inl (rule, block, refl, broken)); cause = λ read. absurd cc }
-directory_fault g dir None before now fetched Unbuilt attached unbuilt = record { ends = tt; cause = λ read. absurd cc }
-directory_fault g dir (Some x) before now fetched Unbuilt attached unbuilt = record { ends = inl (refl, unbuilt); cause = λ read. absurd cc }
+pub directory_fault : (g : Geometry) (dir : ℕ) (image : Option (List ℕ)) (before now : ℕ) (fault : ForkFault) → IsFaultOver g dir image before now fault → Answered (ListsDirectory g dir) image before now (Err (see_fault_in dir fault))
+directory_fault g dir image before now Read rose = record { ends = tt; cause = λ read. rose }
+directory_fault g dir image before now Memory free = record { ends = tt; cause = λ read. absurd cc }
+directory_fault g dir None before now (Broken rule block) broken = record { ends = tt; cause = λ read. absurd cc }
+directory_fault g dir (Some x) before now (Broken rule block) broken = record { ends = inr (inl (rule, block, refl, broken)); cause = λ read. absurd cc }
+directory_fault g dir None before now Unbuilt unbuilt = record { ends = tt; cause = λ read. absurd cc }
+directory_fault g dir (Some x) before now Unbuilt unbuilt = record { ends = inl (refl, unbuilt); cause = λ read. absurd cc }
 
 -- the end of the directory's list is that of the inode's
 attached_end : (g : Geometry) (ino : ℕ) (image : Option (List ℕ)) (end : Option End) → IfSome image (λ x. IsAttached g (inode_of g x ino) ino)
@@ -39,14 +34,9 @@ attached_end g ino (Some x) (Some e) attached ends = inr (inr (inr (attached, en
 pub rose_earlier : (before between now : ℕ) → before ≤ between → Rose between now → Rose before now
 rose_earlier before between now later rose = omega arith
 
--- so does the list of its inode
-list_reads : (g : Geometry) (ino : ℕ) (image : Option (List ℕ)) (count : ℕ) → IfSome image (λ x. IsAttached g (inode_of g x ino) ino) → IfSome image (λ x. ListReads g ino x count)
-list_reads g ino None count attached = tt
-list_reads g ino (Some x) count attached = record { live = attached.directory.sound.live; more = inr attached }
-
-pub attached_list : (g : Geometry) (ino : ℕ) (image : Option (List ℕ)) (before between now later_fetched fetched : ℕ) (result : Result Reply SeeFault) → IfSome image (λ x. IsAttached g (inode_of g x ino) ino) → before ≤ between
-    → Answered (ListsDirectory g ino) (DirectoryReads g ino) image between now later_fetched result → Answered (ListEnds g ino) (ListReads g ino) image before now fetched result
-attached_list g ino image before between now later_fetched fetched result attached later answered = record {
+pub attached_list : (g : Geometry) (ino : ℕ) (image : Option (List ℕ)) (before between now : ℕ) (result : Result Reply SeeFault) → IfSome image (λ x. IsAttached g (inode_of g x ino) ino) → before ≤ between
+    → Answered (ListsDirectory g ino) image between now result → Answered (ListEnds g ino) image before now result
+attached_list g ino image before between now result attached later answered = record {
   ends = attached_end g ino image (end_of result) attached answered.ends;
-  cause = IfErr-weaker result _ _ (λ fault rose read. (rose_earlier before between now later (rose read).0, list_reads g ino image fetched attached)) answered.cause;
+  cause = IfErr-weaker result _ _ (λ fault rose read. rose_earlier before between now later (rose read)) answered.cause;
 }

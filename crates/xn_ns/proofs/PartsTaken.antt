@@ -24,10 +24,10 @@ use Rattle.xn_ns.specs.declared.walk.Step.TheVariants as steps
 use Rattle.xn_ns.specs.declared.fault.SeeFault.{SeeFault}
 use Rattle.xn_ns.specs.declared.fault.SeeFault.TheVariants as see
 use Rattle.xn_ns.specs.Ends.{see_fault_in}
-use Rattle.xn_ns.specs.Steps.{IsTaken, StepReads, step_of, taken_of}
+use Rattle.xn_ns.specs.Steps.{IsTaken, step_of, taken_of}
 
 abbrev IsPartTaken : Geometry → Option (List ℕ) → ℕ → List ℕ → ℕ → ℕ → Result Step SeeFault → Type 0
-IsPartTaken g image dir part before now result = IsTaken (λ x. TakesPart g x dir part) (λ x. IsDirectoryIn g x dir) image before now result
+IsPartTaken g image dir part before now result = IsTaken (λ x. TakesPart g x dir part) image before now result
 
 -- the part is no name
 pub not_a_name : (g : Geometry) (image : Option (List ℕ)) (dir : ℕ) (part : List ℕ) (before now : ℕ) (result : Result Step SeeFault)
@@ -79,14 +79,13 @@ none_found g (Some x) dir part before now name built finds stands = record {
 }
 
 -- the look-up gave up
-pub look_up_fails : (g : Geometry) (image : Option (List ℕ)) (dir : ℕ) (part : List ℕ) (before now : ℕ) (fault : ForkFault) → IsName part → IfSome image (λ x. IsDirectoryIn g x dir) → IsFaultOver g dir image before now fault
-    → IsPartTaken g image dir part before now (Err (see_fault_in dir fault))
-look_up_fails g image dir part before now forks.Read name directory rose = record { takes = tt; cause = λ _. (rose, directory) }
-look_up_fails g image dir part before now forks.Memory name directory free = record { takes = tt; cause = λ is. absurd cc }
-look_up_fails g None dir part before now (forks.Broken rule block) name directory breaks = record { takes = tt; cause = λ is. absurd cc }
-look_up_fails g (Some x) dir part before now (forks.Broken rule block) name directory breaks = record { takes = inr (name, inr (inl (rule, block, refl, breaks))); cause = λ is. absurd cc }
-look_up_fails g None dir part before now forks.Unbuilt name directory unbuilt = record { takes = tt; cause = λ is. absurd cc }
-look_up_fails g (Some x) dir part before now forks.Unbuilt name directory unbuilt = record { takes = inr (name, inl (refl, unbuilt)); cause = λ is. absurd cc }
+pub look_up_fails : (g : Geometry) (image : Option (List ℕ)) (dir : ℕ) (part : List ℕ) (before now : ℕ) (fault : ForkFault) → IsName part → IsFaultOver g dir image before now fault → IsPartTaken g image dir part before now (Err (see_fault_in dir fault))
+look_up_fails g image dir part before now forks.Read name rose = record { takes = tt; cause = λ _. rose }
+look_up_fails g image dir part before now forks.Memory name free = record { takes = tt; cause = λ is. absurd cc }
+look_up_fails g None dir part before now (forks.Broken rule block) name breaks = record { takes = tt; cause = λ is. absurd cc }
+look_up_fails g (Some x) dir part before now (forks.Broken rule block) name breaks = record { takes = inr (name, inr (inl (rule, block, refl, breaks))); cause = λ is. absurd cc }
+look_up_fails g None dir part before now forks.Unbuilt name unbuilt = record { takes = tt; cause = λ is. absurd cc }
+look_up_fails g (Some x) dir part before now forks.Unbuilt name unbuilt = record { takes = inr (name, inl (refl, unbuilt)); cause = λ is. absurd cc }
 
 -- ---- from a place
 
@@ -109,15 +108,10 @@ from_directory : (g : Geometry) (image : Option (List ℕ)) (here : Reached) (pa
 from_directory g None here part dir directory = tt
 from_directory g (Some x) here part dir directory = λ step takes. inr (inr (dir, directory, takes))
 
--- a directory is read for a part
-step_reads : (g : Geometry) (image : Option (List ℕ)) (here : Reached) → here.kind ≡ Dir → IfSome image (λ x. IsDirectoryIn g x here.ino) → IfSome image (λ _. StepReads g here)
-step_reads g None here dir directory = tt
-step_reads g (Some x) here dir directory = (dir, directory.sound.live)
-
 -- a part is taken from a place as from its directory
 pub taken_from : (g : Geometry) (image : Option (List ℕ)) (here : Reached) (part : List ℕ) (before middle now : ℕ) (result : Result Step SeeFault) → here.kind ≡ Dir → IfSome image (λ x. IsDirectoryIn g x here.ino) → before ≤ middle
-    → IsPartTaken g image here.ino part middle now result → IsTaken (λ x. TakesInImage g x here part) (λ _. StepReads g here) image before now result
+    → IsPartTaken g image here.ino part middle now result → IsTaken (λ x. TakesInImage g x here part) image before now result
 taken_from g image here part before middle now result dir directory later taken = record {
   takes = weaker (taken_of result) image (λ x. TakesPart g x here.ino part) (λ x. TakesInImage g x here part) (from_directory g image here part dir directory) taken.takes;
-  cause = IfErr-weaker result _ _ (λ fault rose is. (rose_before before middle now later (rose is).0, step_reads g image here dir directory)) taken.cause;
+  cause = IfErr-weaker result _ _ (λ fault rose is. rose_before before middle now later (rose is)) taken.cause;
 }

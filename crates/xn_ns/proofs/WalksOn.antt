@@ -6,14 +6,14 @@ use Rattle.xn_bytes.specs.Paths.{parts_of}
 use Rattle.xn_bytes.specs.declared.errno.Errno.{Errno}
 use Rattle.xn_bytes.specs.Replies.{ErrorOf, EntryOf}
 use Rattle.xn_bytes.specs.NameSpace.{Place as Reached, Step as Taken, End, Says, Breaks, Beyond, Ends, Goes, Walks, Reaches}
-use Rattle.xn_bytes.specs.Reading.{ResolveEnds, ResolveReads, TakesInImage, root_place}
+use Rattle.xn_bytes.specs.Reading.{ResolveEnds, TakesInImage, root_place}
 use Rattle.xn_text.specs.declared.reply.Reply.TheVariants as replies
 use Rattle.xn_ns.specs.declared.walk.Place.{Place}
 use Rattle.xn_ns.specs.declared.walk.Step.TheVariants as steps
 use Rattle.xn_ns.specs.declared.fault.SeeFault.{SeeFault}
 use Rattle.xn_ns.specs.declared.fault.SeeFault.TheVariants as see
 use Rattle.xn_ns.specs.Ends.{Answered}
-use Rattle.xn_ns.specs.Steps.{IsTaken, StepReads, place_of}
+use Rattle.xn_ns.specs.Steps.{IsTaken, place_of}
 use Rattle.xn_ns.proofs.PartsTaken.{rose_before}
 
 -- a walk that comes to a place ends as the walk of the other parts from there
@@ -39,14 +39,14 @@ begins_here g (Some x) path = ([], refl, refl)
 ends_of : (g : Geometry) (path x : List ℕ) (here : Reached) (rest : List (List ℕ)) (end : End) → IsOn g path x here rest → Walks (TakesInImage g x) here rest end → ResolveEnds g path x end
 ends_of g path x here rest end (taken, is, reaches) walk = subst (λ (ps : List (List ℕ)). Walks (TakesInImage g x) (root_place g) ps end) (sym is) (walks_from (TakesInImage g x) (root_place g) here taken rest end reaches walk)
 
-pub all_taken : (g : Geometry) (image : Option (List ℕ)) (path : List ℕ) (here : Place) (rest : List ℕ) (before now count : ℕ) → LeadsHere g image path (place_of here) rest → parts_of rest ≡ []
-    → Answered (ResolveEnds g path) (ResolveReads g path) image before now count (Ok (replies.Entry here.ino here.kind))
-all_taken g None path here rest before now count leads none = record { ends = tt; cause = tt }
-all_taken g (Some x) path here rest before now count leads none =
+pub all_taken : (g : Geometry) (image : Option (List ℕ)) (path : List ℕ) (here : Place) (rest : List ℕ) (before now : ℕ) → LeadsHere g image path (place_of here) rest → parts_of rest ≡ []
+    → Answered (ResolveEnds g path) image before now (Ok (replies.Entry here.ino here.kind))
+all_taken g None path here rest before now leads none = record { ends = tt; cause = tt }
+all_taken g (Some x) path here rest before now leads none =
     record { ends = ends_of g path x (place_of here) (parts_of rest) (Says (EntryOf here.ino here.kind)) leads (subst (λ (ps : List (List ℕ)). Walks (TakesInImage g x) (place_of here) ps (Says (EntryOf here.ino here.kind))) (sym none) refl); cause = tt }
 
 pub goes_on : (g : Geometry) (image : Option (List ℕ)) (path : List ℕ) (here : Reached) (rest part behind : List ℕ) (before now : ℕ) (place : Place) → LeadsHere g image path here rest → parts_of rest ≡ part ∷ parts_of behind
-    → IsTaken (λ x. TakesInImage g x here part) (λ _. StepReads g here) image before now (Ok (steps.Goes place)) → LeadsHere g image path (place_of place) behind
+    → IsTaken (λ x. TakesInImage g x here part) image before now (Ok (steps.Goes place)) → LeadsHere g image path (place_of place) behind
 goes_on g None path here rest part behind before now place leads parts step = tt
 goes_on g (Some x) path here rest part behind before now place (taken, is, reaches) parts step =
     (taken ++ (part ∷ []), is ∙ ap (λ (ps : List (List ℕ)). taken ++ ps) parts ∙ sym (append_assoc taken (part ∷ []) (parts_of behind)), one_more (TakesInImage g x) (root_place g) here (place_of place) taken part reaches step.takes)
@@ -55,39 +55,20 @@ ends_here : (g : Geometry) (x path : List ℕ) (here : Reached) (rest part behin
 ends_here g x path here rest part behind end leads parts takes =
     ends_of g path x here (parts_of rest) end leads (subst (λ (ps : List (List ℕ)). Walks (TakesInImage g x) here ps end) (sym parts) (inl takes))
 
-pub refused_here : (g : Geometry) (image : Option (List ℕ)) (path : List ℕ) (here : Reached) (rest part behind : List ℕ) (first before now count : ℕ) (error : Errno) → LeadsHere g image path here rest → parts_of rest ≡ part ∷ parts_of behind
-    → IsTaken (λ x. TakesInImage g x here part) (λ _. StepReads g here) image before now (Ok (steps.Refused error)) → Answered (ResolveEnds g path) (ResolveReads g path) image first now count (Ok (replies.Error error))
-refused_here g None path here rest part behind first before now count error leads parts taken = record { ends = tt; cause = tt }
-refused_here g (Some x) path here rest part behind first before now count error leads parts taken = record { ends = ends_here g x path here rest part behind (Says (ErrorOf error)) leads parts taken.takes; cause = tt }
+pub refused_here : (g : Geometry) (image : Option (List ℕ)) (path : List ℕ) (here : Reached) (rest part behind : List ℕ) (first before now : ℕ) (error : Errno) → LeadsHere g image path here rest → parts_of rest ≡ part ∷ parts_of behind
+    → IsTaken (λ x. TakesInImage g x here part) image before now (Ok (steps.Refused error)) → Answered (ResolveEnds g path) image first now (Ok (replies.Error error))
+refused_here g None path here rest part behind first before now error leads parts taken = record { ends = tt; cause = tt }
+refused_here g (Some x) path here rest part behind first before now error leads parts taken = record { ends = ends_here g x path here rest part behind (Says (ErrorOf error)) leads parts taken.takes; cause = tt }
 
--- where the step reads, a read of the path is due
-resolve_reads : (g : Geometry) (image : Option (List ℕ)) (path : List ℕ) (here : Reached) (rest part behind : List ℕ) (old new : ℕ) → LeadsHere g image path here rest → parts_of rest ≡ part ∷ parts_of behind
-    → new + 3 * length (parts_of behind) ≤ old + 3 * length (parts_of path) → IfSome image (λ _. StepReads g here) → IfSome image (λ x. ResolveReads g path x (new - old))
-resolve_reads g None path here rest part behind old new leads parts few reads = tt
-resolve_reads g (Some x) path here rest part behind old new (taken, is, reaches) parts few reads =
-    let whole : parts_of path ≡ taken ++ (part ∷ parts_of behind) = is ∙ ap (λ (ps : List (List ℕ)). taken ++ ps) parts in
-    let long : length (parts_of path) ≡ length taken + suc (length (parts_of behind)) = ap length whole ∙ length-append taken (part ∷ parts_of behind) in
-    record {
-      taken = taken;
-      part = part;
-      parts = parts_of behind;
-      path_is = whole;
-      here = here;
-      reached = reaches;
-      kind = reads.0;
-      live = reads.1;
-      few = omega (arith, few, long);
-    }
-
-pub given_up : (g : Geometry) (image : Option (List ℕ)) (path : List ℕ) (here : Reached) (rest part behind : List ℕ) (first before now old new : ℕ) (fault : SeeFault) → LeadsHere g image path here rest → parts_of rest ≡ part ∷ parts_of behind
-    → first ≤ before → new + 3 * length (parts_of behind) ≤ old + 3 * length (parts_of path) → IsTaken (λ x. TakesInImage g x here part) (λ _. StepReads g here) image before now (Err fault) → Answered (ResolveEnds g path) (ResolveReads g path) image first now (new - old) (Err fault)
-given_up g image path here rest part behind first before now old new see.Read leads parts later few taken = record { ends = tt; cause = λ is. let due = taken.cause is in (rose_before first before now later due.0, resolve_reads g image path here rest part behind old new leads parts few due.1) }
-given_up g image path here rest part behind first before now old new see.Memory leads parts later few taken = record { ends = tt; cause = λ is. absurd cc }
-given_up g None path here rest part behind first before now old new (see.Broken rule inode block) leads parts later few taken = record { ends = tt; cause = λ is. absurd cc }
-given_up g (Some x) path here rest part behind first before now old new (see.Broken rule inode block) leads parts later few taken =
+pub given_up : (g : Geometry) (image : Option (List ℕ)) (path : List ℕ) (here : Reached) (rest part behind : List ℕ) (first before now : ℕ) (fault : SeeFault) → LeadsHere g image path here rest → parts_of rest ≡ part ∷ parts_of behind
+    → first ≤ before → IsTaken (λ x. TakesInImage g x here part) image before now (Err fault) → Answered (ResolveEnds g path) image first now (Err fault)
+given_up g image path here rest part behind first before now see.Read leads parts later taken = record { ends = tt; cause = λ is. rose_before first before now later (taken.cause is) }
+given_up g image path here rest part behind first before now see.Memory leads parts later taken = record { ends = tt; cause = λ is. absurd cc }
+given_up g None path here rest part behind first before now (see.Broken rule inode block) leads parts later taken = record { ends = tt; cause = λ is. absurd cc }
+given_up g (Some x) path here rest part behind first before now (see.Broken rule inode block) leads parts later taken =
     record { ends = ends_here g x path here rest part behind (Breaks inode rule block) leads parts taken.takes; cause = λ is. absurd cc }
-given_up g None path here rest part behind first before now old new see.Unbuilt leads parts later few taken = record { ends = tt; cause = λ is. absurd cc }
-given_up g (Some x) path here rest part behind first before now old new see.Unbuilt leads parts later few taken =
+given_up g None path here rest part behind first before now see.Unbuilt leads parts later taken = record { ends = tt; cause = λ is. absurd cc }
+given_up g (Some x) path here rest part behind first before now see.Unbuilt leads parts later taken =
     record { ends = ends_here g x path here rest part behind Beyond leads parts taken.takes; cause = λ is. absurd cc }
 
 -- at most three fetches for each part that was taken

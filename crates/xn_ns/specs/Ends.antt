@@ -35,8 +35,7 @@ abbrev pub end_of : Result Reply SeeFault → Option End
 end_of (Ok reply) = Some (Says (reply_of reply))
 end_of (Err fault) = fault_end fault
 
--- A command ended as it does over the image, where one is told. Reading failed only where the count of faults rose, and
--- where the command reads from the image, so many times.
-pub record Answered (EndsWith : List ℕ → End → Type 0) (IsDue : List ℕ → ℕ → Type 0) (image : Option (List ℕ)) (before now fetched : ℕ) (result : Result Reply SeeFault) : Type 0 where
+-- A command ended as it does over the image, where one is told. Reading failed only where the count of faults rose.
+pub record Answered (EndsWith : List ℕ → End → Type 0) (image : Option (List ℕ)) (before now : ℕ) (result : Result Reply SeeFault) : Type 0 where
   pub ends : IfSome (end_of result) (λ end. IfSome image (λ x. EndsWith x end))
-  pub cause : IfErr result (λ fault. fault ≡ see.Read → Rose before now × IfSome image (λ x. IsDue x fetched))
+  pub cause : IfErr result (λ fault. fault ≡ see.Read → Rose before now)

@@ -1,9 +1,6 @@
 -- What comes of one part of a path.
 use Rattle.std.specs.Prelude.{◌≡◌, ℕ, List, Option, Some, IfSome, option_map, Result, Ok, Err, IfErr}
-use Rattle.xn_bytes.specs.declared.kind.Kind.TheVariants.{Dir}
 use Rattle.xn_bytes.specs.Causes.{Rose}
-use Rattle.xn_bytes.specs.Superblock.{Geometry}
-use Rattle.xn_bytes.specs.Directory.{IsLive}
 use Rattle.xn_bytes.specs.NameSpace.{Says, Place as Reached, Step as Taken, Ends, Goes}
 use Rattle.xn_bytes.specs.Replies.{ErrorOf}
 use Rattle.xn_ns.specs.declared.walk.Place.{Place}
@@ -27,12 +24,7 @@ abbrev pub taken_of : Result Step SeeFault → Option Taken
 taken_of (Ok step) = Some (step_of step)
 taken_of (Err fault) = option_map Ends (fault_end fault)
 
--- a step reads where an entry calls its place a directory, and the inode is live
-abbrev pub StepReads : Geometry → Reached → Type 0
-StepReads g here = (here.kind ≡ Dir) × IsLive g here.ino
-
--- A step is one over the image, where one is told. Reading failed only where the count of faults rose, and where the step
--- reads from the image.
-pub record IsTaken (Takes : List ℕ → Taken → Type 0) (IsDue : List ℕ → Type 0) (image : Option (List ℕ)) (before now : ℕ) (result : Result Step SeeFault) : Type 0 where
+-- A step is one over the image, where one is told. Reading failed only where the count of faults rose.
+pub record IsTaken (Takes : List ℕ → Taken → Type 0) (image : Option (List ℕ)) (before now : ℕ) (result : Result Step SeeFault) : Type 0 where
   pub takes : IfSome (taken_of result) (λ step. IfSome image (λ x. Takes x step))
-  pub cause : IfErr result (λ fault. fault ≡ see.Read → Rose before now × IfSome image IsDue)
+  pub cause : IfErr result (λ fault. fault ≡ see.Read → Rose before now)

@@ -1,11 +1,11 @@
 //! `list`: the entries of a directory, sorted by name.
 
-ghost use Rattle.std.specs.Prelude.{◌≡◌, ◌+◌, ◌-◌, ◌≤◌, IfOk, IfSome, map};
-ghost use Rattle.xn_bytes.specs.Reading.{ListEnds, ListReads, ListsDirectory, IsAttached};
+ghost use Rattle.std.specs.Prelude.{◌≡◌, ◌+◌, ◌≤◌, IfOk, IfSome, map};
+ghost use Rattle.xn_bytes.specs.Reading.{ListEnds, ListsDirectory, IsAttached};
 ghost use Rattle.xn_bytes.specs.Superblock.{IsInode};
 ghost use Rattle.xn_bytes.specs.Inode.{inode_of};
 ghost use Rattle.xn_bytes.specs.Directory.{HasNames};
-ghost use Rattle.xn_inode.specs.Stores.{KeepsStore};
+ghost use Rattle.xn_inode.specs.Frames.{StoreStays};
 ghost use Rattle.xn_dir.specs.Listings.{entry_of};
 ghost use Rattle.xn_text.specs.Viewed.{line_of};
 ghost use Rattle.xn_ns.specs.Ends.{Answered};
@@ -24,9 +24,8 @@ use xn_text::{Lines, ListLine, Reply};
 /// and, where it is the root's or that of a directory with a link, what the directory's form needs.
 pub fn list<S: Store>(alloc: Global, store: &mut S, ino: u64) -> Result<Reply, SeeFault>
     requires whole { S.IsWhole store.old }
-    ensures answered { Answered (ListEnds (S.shape store.old) ino) (ListReads (S.shape store.old) ino) (S.image store.old) (S.faults store.old) (S.faults store.new) (S.fetches store.new - S.fetches store.old) result }
-    ensures keeps { KeepsStore S.image S.shape S.IsWhole S.pool S.free S.references store.old store.new }
-    ensures only_read { S.OnlyRead store.old store.new }
+    ensures answered { Answered (ListEnds (S.shape store.old) ino) (S.image store.old) (S.faults store.old) (S.faults store.new) result }
+    ensures stays { StoreStays S.Store store.old store.new }
     ensures fetches { S.fetches store.new ≤ S.fetches store.old + 3 }
 {
     match look_at(store, ino)? {
@@ -46,11 +45,9 @@ fn list_directory<S: Store>(alloc: Global, store: &mut S, dir: u64) -> Result<Re
     requires whole { S.IsWhole store.old }
     requires place { IsInode (S.shape store.old) dir }
     requires attached { IfSome (S.image store.old) (λ x. IsAttached (S.shape store.old) (inode_of (S.shape store.old) x dir) dir) }
-    ensures answered { Answered (ListsDirectory (S.shape store.old) dir) (λ x _. IsAttached (S.shape store.old) (inode_of (S.shape store.old) x dir) dir) (S.image store.old) (S.faults store.old) (S.faults store.new) (S.fetches store.new - S.fetches store.old) result }
-    ensures keeps { KeepsStore S.image S.shape S.IsWhole S.pool S.free S.references store.old store.new }
-    ensures only_read { S.OnlyRead store.old store.new }
+    ensures answered { Answered (ListsDirectory (S.shape store.old) dir) (S.image store.old) (S.faults store.old) (S.faults store.new) result }
+    ensures stays { StoreStays S.Store store.old store.new }
     ensures fetches { S.fetches store.new ≤ S.fetches store.old + 2 }
-    ensures faults { S.faults store.old ≤ S.faults store.new }
 {
     match Dir::list(alloc, store, dir) {
         Ok(listed) => Ok(Reply::List(Lines::new(sorted_lines(alloc, listed)?))),

@@ -2,7 +2,7 @@ ghost use Rattle.std.specs.Prelude.{◌≡◌, ◌+◌, ◌≤◌, ◌↔◌, Is
 ghost use Rattle.xn_bytes.specs.Causes.{Rose};
 ghost use Rattle.xn_bytes.specs.Inode.{inode_of};
 ghost use Rattle.xn_bytes.specs.Directory.{IsLive};
-ghost use Rattle.xn_inode.specs.Stores.{KeepsStore};
+ghost use Rattle.xn_inode.specs.Frames.{StoreStays};
 ghost use Rattle.xn_inode.specs.declared.store.StoreFault.TheVariants.{Read};
 ghost use Rattle.xn_ns.specs.Sights.{IsSightOf, HasPlace};
 
@@ -33,9 +33,7 @@ pub(crate) fn look_at<S: Store>(store: &mut S, ino: u64) -> Result<Sight, StoreF
     ensures place { IfOk result (HasPlace (S.shape store.old) ino) }
     ensures cause { IfErr result (λ fault. fault ≡ Read → Rose (S.faults store.old) (S.faults store.new)) }
     ensures live { OnErr result (IsLive (S.shape store.old) ino) }
-    ensures faults { S.faults store.old ≤ S.faults store.new }
-    ensures keeps { KeepsStore S.image S.shape S.IsWhole S.pool S.free S.references store.old store.new }
-    ensures only_read { S.OnlyRead store.old store.new }
+    ensures stays { StoreStays S.Store store.old store.new }
     ensures fetches { S.fetches store.new ≤ S.fetches store.old + 1 }
 {
     if !is_live(store.geometry(), ino) {

@@ -1,14 +1,14 @@
 //! `resolve`: the walk of a path from the root.
 
-ghost use Rattle.std.specs.Prelude.{◌≡◌, ◌+◌, ◌-◌, ◌*◌, ◌≤◌, ℕ, List, IfSome, MatchResult, length};
+ghost use Rattle.std.specs.Prelude.{◌≡◌, ◌+◌, ◌*◌, ◌≤◌, ℕ, List, IfSome, MatchResult, length};
 ghost use Rattle.xn_bytes.specs.Names.{IsName, IsNameFault};
 ghost use Rattle.xn_bytes.specs.NameSpace.{part_error};
 ghost use Rattle.xn_bytes.specs.Paths.{parts_of};
-ghost use Rattle.xn_bytes.specs.Reading.{ResolveEnds, ResolveReads, TakesInImage, TakesPart, IsDirectoryIn};
+ghost use Rattle.xn_bytes.specs.Reading.{ResolveEnds, TakesInImage, TakesPart, IsDirectoryIn};
 ghost use Rattle.xn_bytes.specs.Superblock.{IsInode};
-ghost use Rattle.xn_inode.specs.Stores.{KeepsStore};
+ghost use Rattle.xn_inode.specs.Frames.{StoreStays};
 ghost use Rattle.xn_ns.specs.Ends.{Answered};
-ghost use Rattle.xn_ns.specs.Steps.{IsTaken, StepReads, place_of};
+ghost use Rattle.xn_ns.specs.Steps.{IsTaken, place_of};
 
 use crate::fault::{SeeFault, of_directory};
 use crate::parts::first_part;
@@ -40,9 +40,8 @@ pub(crate) enum Step {
 /// are passed over. For each part it reads the directory's inode and what a look-up in its form needs.
 pub fn resolve<S: Store>(alloc: Global, store: &mut S, path: &[u8]) -> Result<Reply, SeeFault>
     requires whole { S.IsWhole store.old }
-    ensures answered { Answered (ResolveEnds (S.shape store.old) path.now) (ResolveReads (S.shape store.old) path.now) (S.image store.old) (S.faults store.old) (S.faults store.new) (S.fetches store.new - S.fetches store.old) result }
-    ensures keeps { KeepsStore S.image S.shape S.IsWhole S.pool S.free S.references store.old store.new }
-    ensures only_read { S.OnlyRead store.old store.new }
+    ensures answered { Answered (ResolveEnds (S.shape store.old) path.now) (S.image store.old) (S.faults store.old) (S.faults store.new) result }
+    ensures stays { StoreStays S.Store store.old store.new }
     ensures fetches { S.fetches store.new ≤ S.fetches store.old + 3 * length (parts_of path.now) }
 {
     let mut here = Place {
@@ -71,11 +70,9 @@ fn take_part<S: Store>(
     part: &[u8],
 ) -> Result<Step, SeeFault>
     requires whole { S.IsWhole store.old }
-    ensures taken { IsTaken (λ x. TakesInImage (S.shape store.old) x (place_of here) part.now) (λ _. StepReads (S.shape store.old) (place_of here)) (S.image store.old) (S.faults store.old) (S.faults store.new) result }
-    ensures keeps { KeepsStore S.image S.shape S.IsWhole S.pool S.free S.references store.old store.new }
-    ensures only_read { S.OnlyRead store.old store.new }
+    ensures taken { IsTaken (λ x. TakesInImage (S.shape store.old) x (place_of here) part.now) (S.image store.old) (S.faults store.old) (S.faults store.new) result }
+    ensures stays { StoreStays S.Store store.old store.new }
     ensures fetches { S.fetches store.new ≤ S.fetches store.old + 3 }
-    ensures faults { S.faults store.old ≤ S.faults store.new }
 {
     if here.kind != Kind::Dir {
         return Ok(Step::Refused(Errno::ENOTDIR));
@@ -101,11 +98,9 @@ fn take_part_in<S: Store>(
     requires whole { S.IsWhole store.old }
     requires place { IsInode (S.shape store.old) dir }
     requires directory { IfSome (S.image store.old) (λ x. IsDirectoryIn (S.shape store.old) x dir) }
-    ensures taken { IsTaken (λ x. TakesPart (S.shape store.old) x dir part.now) (λ x. IsDirectoryIn (S.shape store.old) x dir) (S.image store.old) (S.faults store.old) (S.faults store.new) result }
-    ensures keeps { KeepsStore S.image S.shape S.IsWhole S.pool S.free S.references store.old store.new }
-    ensures only_read { S.OnlyRead store.old store.new }
+    ensures taken { IsTaken (λ x. TakesPart (S.shape store.old) x dir part.now) (S.image store.old) (S.faults store.old) (S.faults store.new) result }
+    ensures stays { StoreStays S.Store store.old store.new }
     ensures fetches { S.fetches store.new ≤ S.fetches store.old + 2 }
-    ensures faults { S.faults store.old ≤ S.faults store.new }
 {
     let name = match Name::read(alloc, part) {
         Ok(name) => name,

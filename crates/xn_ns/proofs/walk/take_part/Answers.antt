@@ -5,7 +5,7 @@ use Rattle.xn_ns.proofs.walk.take_part.Goals as goal
 
 pub returns-in-Detached-clause-taken : goal.returns-in-Detached-clause-taken
 returns-in-Detached-clause-taken g c =
-    let keeps = c.in_ok-look_at.ensures.keeps in
+    let stays = c.in_ok-look_at.ensures.stays in
     let directory = directory_seen (g.S.Store.shape c.args.store.now) (g.S.Store.image c.args.store.now) c.args.here.ino c.in_ok-look_at.field-0 c.in_ok-look_at.ensures.seen c.in-Detached.is in
-    let taken = rw (keeps.shape_stays, keeps.image_stays) at c.take_part_in.ensures.taken in
-    taken_from (g.S.Store.shape c.args.store.now) (g.S.Store.image c.args.store.now) (place_of c.args.here) c.args.part.now _ (g.S.Store.faults c.look_at.new.store) _ c.take_part_in.result (search rules) directory c.in_ok-look_at.ensures.faults taken
+    let taken = rw (stays.shape_stays, stays.image_stays) at c.take_part_in.ensures.taken in
+    taken_from (g.S.Store.shape c.args.store.now) (g.S.Store.image c.args.store.now) (place_of c.args.here) c.args.part.now _ (g.S.Store.faults c.look_at.new.store) _ c.take_part_in.result (search rules) directory stays.faults_later taken

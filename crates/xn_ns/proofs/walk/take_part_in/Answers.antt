@@ -20,4 +20,4 @@ returns-in-Ok-None-clause-taken g c =
 pub returns-clause-taken : goal.returns-clause-taken
 returns-clause-taken g c =
     rw c.of_directory.ensures
-    (look_up_fails (g.S.Store.shape c.args.store.now) (g.S.Store.image c.args.store.now) c.args.dir c.args.part.now _ _ c.in-Err-lookup.fault c.in-Ok.ensures.1 c.requires.directory c.in-Err-lookup.ensures.fault)
+    (look_up_fails (g.S.Store.shape c.args.store.now) (g.S.Store.image c.args.store.now) c.args.dir c.args.part.now _ _ c.in-Err-lookup.fault c.in-Ok.ensures.1 c.in-Err-lookup.ensures.fault)
