@@ -1,13 +1,13 @@
 -- What the commands are, how their ends are answered, and what a fault of reading comes from.
-use Rattle.std.specs.Prelude.{◌≡◌, ◌⊎◌, ℕ, ◌+◌, ◌-◌, ◌*◌, ◌≤◌, List, length, Option, IfSome, IsSomeAnd}
+use Rattle.std.specs.Prelude.{◌≡◌, ℕ, ◌+◌, ◌*◌, ◌≤◌, List, length, Option, IsSomeAnd}
 use Rattle.xn_bytes.specs.declared.status.Status.{Status}
 use Rattle.xn_bytes.specs.Causes.{Rose}
 use Rattle.xn_bytes.specs.Superblock.{Geometry}
 use Rattle.xn_bytes.specs.Words.{AsksList, AsksResolve, AsksNothing}
 use Rattle.xn_bytes.specs.Paths.{parts_of}
 use Rattle.xn_bytes.specs.NameSpace.{End}
-use Rattle.xn_bytes.specs.Reading.{ListEnds, ResolveEnds, ListReads, ResolveReads}
-use Rattle.xn_bytes.specs.Outcome.{HasSuperblock, AsksToRead, IsDue, end_status, end_text}
+use Rattle.xn_bytes.specs.Reading.{ListEnds, ResolveEnds}
+use Rattle.xn_bytes.specs.Outcome.{AsksToRead, end_status, end_text}
 use Rattle.xn_text.specs.declared.words.Words.{Words}
 use Rattle.xn_text.specs.declared.words.Words.TheVariants as commands
 use Rattle.xfsns.specs.declared.answer.Fault.{Fault}
@@ -19,11 +19,6 @@ use Rattle.xfsns.specs.declared.answer.Fault.TheVariants as faults
 abbrev pub EndsWith : Words → Geometry → List ℕ → End → Type 0
 EndsWith (commands.List ino) g = ListEnds g ino
 EndsWith (commands.Resolve path) g = ResolveEnds g path
-
--- it reads from an image, beside the superblock, so many times
-abbrev pub DueFor : Words → Geometry → List ℕ → ℕ → Type 0
-DueFor (commands.List ino) g = ListReads g ino
-DueFor (commands.Resolve path) g = ResolveReads g path
 
 -- how often it reads at most, once the superblock is read
 abbrev pub most_reads : Words → ℕ
@@ -42,16 +37,7 @@ pub record ReadsFor (words : List (List ℕ)) (before now : ℕ) : Type 0 where
 abbrev pub IsAnswerTo : Option End → Status → List ℕ → Type 0
 IsAnswerTo ended status text = IsSomeAnd ended (λ end. (status ≡ end_status end) × (text ≡ end_text end))
 
--- A read that failed: its count rose, and it was the first, or the superblock is accepted and so many reads beside it were
--- due. Want of memory has no cause.
-abbrev pub HasCauseOf : {M : Type 0} → (List ℕ → ℕ → Type 0) → (M → Option (List ℕ)) → (M → ℕ) → (M → ℕ) → M → M → Fault → Type 0
-HasCauseOf AreDue image reads read_faults old new faults.Memory = Unit {0}
-HasCauseOf AreDue image reads read_faults old new faults.Read =
-    Rose (read_faults old) (read_faults new)
-    × IfSome (image old) (λ x. (reads new ≤ reads old + 1) ⊎ (HasSuperblock x × AreDue x (reads new - (reads old + 1))))
-
--- the same for words, and they ask for something that is read
-abbrev pub HasReadCause : {M : Type 0} → List (List ℕ) → (M → Option (List ℕ)) → (M → ℕ) → (M → ℕ) → M → M → Fault → Type 0
-HasReadCause words image reads read_faults old new faults.Memory = Unit {0}
-HasReadCause words image reads read_faults old new faults.Read =
-    AsksToRead words × HasCauseOf (IsDue words) image reads read_faults old new faults.Read
+-- A read that failed: its count rose, and the words ask for something that is read. Want of memory has no cause.
+abbrev pub HasReadCause : List (List ℕ) → ℕ → ℕ → Fault → Type 0
+HasReadCause words before now faults.Memory = Unit {0}
+HasReadCause words before now faults.Read = AsksToRead words × Rose before now

@@ -1,12 +1,13 @@
 //! What is answered to the words: a status, and the text to be told.
 
 ghost use Rattle.std.specs.Prelude.{◌≡◌, ◌+◌, ◌≤◌, IfOk, IfErr, Err, map, string_bytes};
-ghost use Rattle.xn_bytes.specs.Outcome.{Answers, Reads, geometry_in};
+ghost use Rattle.xn_bytes.specs.Causes.{Rose};
+ghost use Rattle.xn_bytes.specs.Outcome.{Answers, Reads};
 ghost use Rattle.xn_bytes.specs.Replies.{reply_text};
+ghost use Rattle.xn_machine.specs.Frames.{MachineStays};
 ghost use Rattle.xn_ns.specs.Ends.{end_of};
-ghost use Rattle.xn_replay.specs.Viewed.{MachineStays};
 ghost use Rattle.xn_text.specs.Viewed.{reply_of};
-ghost use Rattle.xfsns.specs.Answer.{EndsWith, DueFor, IsAnswerTo, ReadsFor, most_reads, HasCauseOf, HasReadCause};
+ghost use Rattle.xfsns.specs.Answer.{EndsWith, IsAnswerTo, ReadsFor, most_reads, HasReadCause};
 ghost use Rattle.xfsns.specs.declared.answer.Fault.TheVariants.{Read, Memory};
 
 use crate::home::{ask_image, read_super};
@@ -54,10 +55,10 @@ pub fn answer_words<M: Machine>(
     words: &[String],
     machine: &mut M,
 ) -> Result<Answer, Fault>
-    ensures stays { MachineStays M.image M.told M.sector_count M.read_faults M.write_faults M.say_faults machine.old machine.new }
+    ensures stays { MachineStays M.Machine machine.old machine.new }
     ensures reads { ReadsFor (map string_bytes words.now) (M.reads machine.old) (M.reads machine.new) }
     ensures answer { IfOk result (λ answer. Answers (map string_bytes words.now) (M.image machine.old) answer.status answer.text.items) }
-    ensures cause { IfErr result (HasReadCause (map string_bytes words.now) M.image M.reads M.read_faults machine.old machine.new) }
+    ensures cause { IfErr result (HasReadCause (map string_bytes words.now) (M.read_faults machine.old) (M.read_faults machine.new)) }
 {
     match Words::read(alloc, words) {
         Ok(command) => answer_command(alloc, machine, &command),
@@ -75,10 +76,10 @@ fn answer_command<M: Machine>(
     machine: &mut M,
     command: &Words,
 ) -> Result<Answer, Fault>
-    ensures stays { MachineStays M.image M.told M.sector_count M.read_faults M.write_faults M.say_faults machine.old machine.new }
+    ensures stays { MachineStays M.Machine machine.old machine.new }
     ensures reads { M.reads machine.new ≤ M.reads machine.old + 1 + most_reads command.now }
     ensures answer { IfOk result (λ answer. Reads (EndsWith command.now) (M.image machine.old) answer.status answer.text.items) }
-    ensures cause { IfErr result (HasCauseOf (λ x. DueFor command.now (geometry_in x) x) M.image M.reads M.read_faults machine.old machine.new) }
+    ensures cause { IfErr result (λ fault. fault ≡ Read → Rose (M.read_faults machine.old) (M.read_faults machine.new)) }
 {
     let Some(geometry) = read_super(machine)? else {
         return Ok(Answer {

@@ -1,11 +1,12 @@
 //! The superblock of an image, and what a command answers of the image by it.
 
-ghost use Rattle.std.specs.Prelude.{◌+◌, ◌-◌, ◌≤◌, IfOk, IfSome, OnErr};
+ghost use Rattle.std.specs.Prelude.{◌+◌, ◌≤◌, IfOk, IfSome, OnErr};
 ghost use Rattle.xn_bytes.specs.Causes.{Rose};
-ghost use Rattle.xn_inode.specs.Stores.{KeepsStore};
+ghost use Rattle.xn_inode.specs.Frames.{StoreStays};
+ghost use Rattle.xn_machine.specs.Frames.{MachineStays};
 ghost use Rattle.xn_ns.specs.Ends.{Answered};
-ghost use Rattle.xn_replay.specs.Viewed.{IsSeen, MachineStays};
-ghost use Rattle.xfsns.specs.Answer.{EndsWith, DueFor, most_reads};
+ghost use Rattle.xn_replay.specs.Viewed.{IsSeen};
+ghost use Rattle.xfsns.specs.Answer.{EndsWith, most_reads};
 ghost use Rattle.xfsns.specs.Home.{FindsSuper, home_view};
 
 use std::alloc::Global;
@@ -17,7 +18,7 @@ use xn_text::{Reply, Words};
 
 /// Reads the superblock; None where it isn't accepted.
 pub fn read_super<M: Machine>(machine: &mut M) -> Result<Option<Super>, Failed>
-    ensures stays { MachineStays M.image M.told M.sector_count M.read_faults M.write_faults M.say_faults machine.old machine.new }
+    ensures stays { MachineStays M.Machine machine.old machine.new }
     ensures reads { M.reads machine.new ≤ M.reads machine.old + 1 }
     ensures cause { OnErr result (Rose (M.read_faults machine.old) (M.read_faults machine.new)) }
     ensures found { IfOk result (FindsSuper (M.image machine.old)) }
@@ -40,9 +41,9 @@ pub fn ask_image<M: Machine>(
     command: &Words,
 ) -> Result<Reply, SeeFault>
     requires { IsSeen (home_view geometry.now) (M.image machine.old) (M.sector_count machine.old) (M.read_faults machine.old) (M.reads machine.old) }
-    ensures stays { MachineStays M.image M.told M.sector_count M.read_faults M.write_faults M.say_faults machine.old machine.new }
+    ensures stays { MachineStays M.Machine machine.old machine.new }
     ensures reads { M.reads machine.new ≤ M.reads machine.old + most_reads command.now }
-    ensures answered { Answered (EndsWith command.now geometry.now) (DueFor command.now geometry.now) (M.image machine.old) (M.read_faults machine.old) (M.read_faults machine.new) (M.reads machine.new - M.reads machine.old) result }
+    ensures answered { Answered (EndsWith command.now geometry.now) (M.image machine.old) (M.read_faults machine.old) (M.read_faults machine.new) result }
 {
     let mut view = View::home(alloc, geometry);
     let mut seen = Seen {
@@ -55,9 +56,8 @@ pub fn ask_image<M: Machine>(
 /// What a command says of a store.
 fn ask<S: Store>(alloc: Global, store: &mut S, command: &Words) -> Result<Reply, SeeFault>
     requires { S.IsWhole store.old }
-    ensures answered { Answered (EndsWith command.now (S.shape store.old)) (DueFor command.now (S.shape store.old)) (S.image store.old) (S.faults store.old) (S.faults store.new) (S.fetches store.new - S.fetches store.old) result }
-    ensures keeps { KeepsStore S.image S.shape S.IsWhole S.pool S.free S.references store.old store.new }
-    ensures only_read { S.OnlyRead store.old store.new }
+    ensures answered { Answered (EndsWith command.now (S.shape store.old)) (S.image store.old) (S.faults store.old) (S.faults store.new) result }
+    ensures stays { StoreStays S.Store store.old store.new }
     ensures fetches { S.fetches store.new ≤ S.fetches store.old + most_reads command.now }
 {
     match command {

@@ -26,8 +26,8 @@ pub fn xfsns<M: Machine, F: Source, S: Source>(
     // The status and what is newly told are the answer to the words over the image, but for want of memory and for a
     // fault of the outside whose count rose.
     ensures outcome { Outcome (map string_bytes words.now)
-        (outside_of M.image M.told M.reads M.read_faults M.say_faults machine.old)
-        (outside_of M.image M.told M.reads M.read_faults M.say_faults machine.new)
+        (outside_of M.image M.told M.read_faults M.say_faults machine.old)
+        (outside_of M.image M.told M.read_faults M.say_faults machine.new)
         result }
 
     // The image stays as it is, and no count of faults falls.

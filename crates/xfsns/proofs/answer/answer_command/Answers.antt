@@ -15,8 +15,6 @@ returns-clause-answer g c =
 
 pub returns-clause-cause : goal.returns-clause-cause
 returns-clause-cause g c =
-    let found = rw c.in-Some.is at c.in_ok-geometry.ensures.found in
-    let cause = rw c.in_ok-geometry.ensures.stays.image_stays at c.ask_image-ended.ensures.answered.cause in
     IfErr-weaker c.answer_of.result _ _
-    (λ fault read. cause_of_answer c.args.command.now c.in-Some.geometry g.M.Machine.image g.M.Machine.reads g.M.Machine.read_faults c.args.machine.now c.ask_image-ended.new.machine (g.M.Machine.reads c.read_super.new.machine) (g.M.Machine.read_faults c.read_super.new.machine) c.ask_image-ended.result fault found c.in_ok-geometry.ensures.reads c.in_ok-geometry.ensures.stays.read_later cause read)
+    (λ fault read is. cause_of_answer (g.M.Machine.read_faults c.args.machine.now) (g.M.Machine.read_faults c.read_super.new.machine) _ c.ask_image-ended.result c.in_ok-geometry.ensures.stays.read_faults_later c.ask_image-ended.ensures.answered.cause (read is))
     c.answer_of.ensures.read

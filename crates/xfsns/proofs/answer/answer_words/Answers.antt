@@ -15,5 +15,5 @@ returns-in-Ok-clause-answer g c =
 pub returns-in-Ok-clause-cause : goal.returns-in-Ok-clause-cause
 returns-in-Ok-clause-cause g c =
     IfErr-weaker c.answer_command.result _ _
-    (λ fault cause. cause_for_words _ c.in-Ok.command g.M.Machine.image g.M.Machine.reads g.M.Machine.read_faults c.args.machine.now c.answer_command.new.machine fault c.in-Ok.ensures.ok cause)
+    (λ fault rose. cause_for_words _ c.in-Ok.command _ _ fault c.in-Ok.ensures.ok rose)
     c.answer_command.ensures.cause
