@@ -3,7 +3,7 @@
 ghost use Rattle.std.specs.Prelude.{◌≡◌, IsTrue, IfOk, IfSome};
 ghost use Rattle.xn_bytes.specs.Superblock.{IsInode};
 ghost use Rattle.xn_bytes.specs.Inode.{inode_of};
-ghost use Rattle.xn_inode.specs.Stores.{KeepsStore};
+ghost use Rattle.xn_inode.specs.Frames.{StoreStays};
 ghost use Rattle.xn_replay.specs.Viewed.{IsSeen};
 ghost use Rattle.xn_dir.specs.Inodes.{IsDirectory};
 
@@ -32,7 +32,7 @@ pub fn is_directory<S: Store>(store: &mut S, ino: u64) -> Result<bool, StoreFaul
     requires whole { S.IsWhole store.old }
     requires place { IsInode (S.shape store.old) ino }
     ensures directory { IfOk result (λ is. IsTrue is → IfSome (S.image store.old) (λ x. IsDirectory (inode_of (S.shape store.old) x ino))) }
-    ensures keeps { KeepsStore S.image S.shape S.IsWhole S.pool S.free S.references store.old store.new }
+    ensures stays { StoreStays S.Store store.old store.new }
 {
     let mut inode = [0; 512];
     store.inode(ino, &mut inode)?;

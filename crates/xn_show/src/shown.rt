@@ -3,7 +3,7 @@
 ghost use Rattle.std.specs.Prelude.{◌≡◌, IfSome};
 ghost use Rattle.xn_bytes.specs.Superblock.{IsInode};
 ghost use Rattle.xn_bytes.specs.Inode.{inode_of};
-ghost use Rattle.xn_inode.specs.Stores.{KeepsStore};
+ghost use Rattle.xn_inode.specs.Frames.{StoreStays};
 ghost use Rattle.xn_dir.specs.Inodes.{IsDirectory};
 
 use crate::ending::Ending;
@@ -109,7 +109,7 @@ fn is_found<S: Store>(
     requires whole { S.IsWhole store.old }
     requires place { IsInode (S.shape store.old) dir }
     requires directory { IfSome (S.image store.old) (λ x. IsDirectory (inode_of (S.shape store.old) x dir)) }
-    ensures keeps { KeepsStore S.image S.shape S.IsWhole S.pool S.free S.references store.old store.new }
+    ensures stays { StoreStays S.Store store.old store.new }
 {
     match Dir::lookup(alloc, store, dir, &entry.name)? {
         Some(found) => Ok(
