@@ -1,6 +1,6 @@
 -- From the bytes of an inode and a block to the image that shows them.
-use Rattle.std.proofs.Common.{◌≡◌, ◌≢◌, ℕ, suc, ◌+◌, ◌*◌, List, [], ◌∷◌, Option, Some, None, refl, sym, ap, subst, ◌∙◌, arith, inl, inr}
-use Rattle.std.specs.Prelude.{◌-◌, IfSome, IsSome}
+use Rattle.std.proofs.Common.{◌≡◌, ◌≢◌, ℕ, suc, ◌+◌, ◌*◌, List, [], ◌∷◌, Option, Some, None, Result, Ok, Err, refl, sym, ap, subst, ◌∙◌, arith, inl, inr}
+use Rattle.std.specs.Prelude.{◌-◌, IfOk, IfSome, IsSome}
 use Rattle.std.proofs.lemmas.Bool.{cases_lt, cases_eq}
 use Rattle.std.proofs.lemmas.Grind.{common_steps}
 use Rattle.std.proofs.lemmas.Bool.Decides.{nat_tests}
@@ -17,6 +17,7 @@ use Rattle.xn_bytes.specs.Directory.{HasShortSize, short_bytes_of}
 use Rattle.xn_inode.specs.declared.fork_fault.ForkFault.{ForkFault}
 use Rattle.xn_inode.specs.declared.fork_fault.ForkFault.TheVariants.{Read, Memory, Broken, Unbuilt}
 use Rattle.xn_dir.specs.declared.entry.Entry.{Entry}
+use Rattle.xn_dir.specs.declared.form.Form.{Form}
 use Rattle.xn_dir.specs.declared.form.Form.TheVariants as forms
 use Rattle.xn_dir.specs.Inodes.{IsDirectory, IsSoundInode, IsOfForm}
 use Rattle.xn_dir.specs.Faults.{IsFormFault, IsShortFault, IsFirstFault, IsFaultOver}
@@ -74,15 +75,16 @@ other_size g dir inode core block sound form other has =
 
 -- ---- the form
 
-pub built_short : (g : Geometry) (dir : ℕ) (image : Option (List ℕ)) (inode : List ℕ) (core : CoreFields) → IfSome image (λ x. inode ≡ inode_of g x dir) → IsSoundInode g dir inode core → IsOfForm inode forms.Short
+built : (g : Geometry) (dir : ℕ) (image : Option (List ℕ)) (inode : List ℕ) (core : CoreFields) (form : Form) → IfSome image (λ x. inode ≡ inode_of g x dir) → IsSoundInode g dir inode core → IsOfForm inode form
     → IfSome image (λ x. IsBuilt g (inode_of g x dir) dir)
-built_short g dir None inode core same sound form = tt
-built_short g dir (Some x) inode core same sound form = rw (← same) (record { core = sound.sound; forks = sound.forks; lists = sound.lists; form = inl form })
+built g dir None inode core form same sound is = tt
+built g dir (Some x) inode core forms.Short same sound is = rw (← same) (record { core = sound.sound; forks = sound.forks; lists = sound.lists; form = inl is })
+built g dir (Some x) inode core (forms.Block block) same sound is = rw (← same) (record { core = sound.sound; forks = sound.forks; lists = sound.lists; form = inr (is.0, (block, is.1)) })
 
-pub built_block : (g : Geometry) (dir : ℕ) (image : Option (List ℕ)) (inode : List ℕ) (core : CoreFields) (block : ℕ) → IfSome image (λ x. inode ≡ inode_of g x dir) → IsSoundInode g dir inode core
-    → IsOfForm inode (forms.Block block) → IfSome image (λ x. IsBuilt g (inode_of g x dir) dir)
-built_block g dir None inode core block same sound form = tt
-built_block g dir (Some x) inode core block same sound form = rw (← same) (record { core = sound.sound; forks = sound.forks; lists = sound.lists; form = inr (form.0, (block, form.1)) })
+pub built_where_ok : (g : Geometry) (dir : ℕ) (image : Option (List ℕ)) (inode : List ℕ) (r : Result (CoreFields × Form) ForkFault) → IfSome image (λ x. inode ≡ inode_of g x dir) → IfOk r (λ found. IsSoundInode g dir inode found.0)
+    → IfOk r (λ found. IsOfForm inode found.1) → IfOk r (λ _. IfSome image (λ x. IsBuilt g (inode_of g x dir) dir))
+built_where_ok g dir image inode (Ok found) same sound form = built g dir image inode found.0 found.1 same sound form
+built_where_ok g dir image inode (Err fault) same sound form = tt
 
 -- ---- faults
 

@@ -124,6 +124,7 @@ fn read_form<S: Store>(
     ensures bytes { IfOk result (λ _. IfSome (S.image store.old) (λ x. inode.new ≡ inode_of (S.shape store.old) x dir)) }
     ensures sound { IfOk result (λ found. IsSoundInode (S.shape store.old) dir inode.new found.0) }
     ensures form { IfOk result (λ found. IsOfForm inode.new found.1) }
+    ensures built { IfOk result (λ _. IfSome (S.image store.old) (λ x. IsBuilt (S.shape store.old) (inode_of (S.shape store.old) x dir) dir)) }
     ensures fault { IfErr result (IsFaultOf S.Store dir store.old store.new) }
     ensures stays { StoreStays S.Store store.old store.new }
     ensures fetches { S.fetches store.new ≤ S.fetches store.old + 1 }

@@ -1,6 +1,6 @@
 use Rattle.std.proofs.Common.{◌∙◌}
 use Rattle.std.proofs.lemmas.Result.{IfErr-weaker, IfOk-weaker}
-use Rattle.xn_dir.proofs.OverImages.{built_short, built_block, over_short, over_first, stands_short, stands_block}
+use Rattle.xn_dir.proofs.OverImages.{over_short, over_first, stands_short, stands_block}
 use Rattle.xn_dir.proofs.OneForm.{finds_over}
 use Rattle.xn_dir.proofs.dir.Dir.lookup.Goals as goal
 
@@ -59,17 +59,3 @@ returns-in_ok-read_block-in-Block-clause-found g c =
     (λ found stands. finds_over (g.S.Store.shape c.args.store.now) c.args.dir (g.S.Store.image c.args.store.now) c.args.name.now found
     (stands_block (g.S.Store.shape c.args.store.now) c.args.dir (g.S.Store.image c.args.store.now) c.read_form.new.inode c.read_block.new.bytes c.args.name.now c.in-Block.block found c.in_ok-core.ensures.bytes shown form read.size stands))
     (rw shape at c.lookup-in-Block.ensures.stands)
-
-pub returns-in-Short-clause-built : goal.returns-in-Short-clause-built
-returns-in-Short-clause-built g c =
-    let form = rw c.in-Short.is at c.in_ok-core.ensures.form in
-    IfOk-weaker c.lookup.result _ _
-    (λ _ _. built_short (g.S.Store.shape c.args.store.now) c.args.dir (g.S.Store.image c.args.store.now) c.read_form.new.inode c.in_ok-core.core c.in_ok-core.ensures.bytes c.in_ok-core.ensures.sound form)
-    c.lookup.ensures.stands
-
-pub returns-in_ok-read_block-in-Block-clause-built : goal.returns-in_ok-read_block-in-Block-clause-built
-returns-in_ok-read_block-in-Block-clause-built g c =
-    let form = rw c.in-Block.is at c.in_ok-core.ensures.form in
-    IfOk-weaker c.lookup-in-Block.result _ _
-    (λ _ _. built_block (g.S.Store.shape c.args.store.now) c.args.dir (g.S.Store.image c.args.store.now) c.read_form.new.inode c.in_ok-core.core c.in-Block.block c.in_ok-core.ensures.bytes c.in_ok-core.ensures.sound form)
-    c.lookup-in-Block.ensures.stands

@@ -1,6 +1,6 @@
 use Rattle.std.proofs.Common.{◌∙◌}
 use Rattle.std.proofs.lemmas.Result.{IfErr-weaker, IfOk-weaker}
-use Rattle.xn_dir.proofs.OverImages.{built_short, built_block, over_short, over_first, parent_short, parent_block}
+use Rattle.xn_dir.proofs.OverImages.{over_short, over_first, parent_short, parent_block}
 use Rattle.xn_dir.proofs.dir.Dir.parent.Goals as goal
 
 pub returns-in-Short-clause-parent : goal.returns-in-Short-clause-parent
@@ -37,17 +37,3 @@ returns-in_ok-read_block-in-Block-clause-fault g c =
     IfErr-weaker c.parent-in-Block.result _ _
     (λ fault is. over_first (g.S.Store.shape c.args.store.now) c.args.dir (g.S.Store.image c.args.store.now) c.read_form.new.inode c.read_block.new.bytes c.in_ok-core.core c.in-Block.block _ _ fault c.in_ok-core.ensures.bytes shown c.in_ok-core.ensures.sound form read.size is)
     (rw shape at c.parent-in-Block.ensures.fault)
-
-pub returns-in-Short-clause-built : goal.returns-in-Short-clause-built
-returns-in-Short-clause-built g c =
-    let form = rw c.in-Short.is at c.in_ok-core.ensures.form in
-    IfOk-weaker c.parent.result _ _
-    (λ _ _. built_short (g.S.Store.shape c.args.store.now) c.args.dir (g.S.Store.image c.args.store.now) c.read_form.new.inode c.in_ok-core.core c.in_ok-core.ensures.bytes c.in_ok-core.ensures.sound form)
-    c.parent.ensures.holds
-
-pub returns-in_ok-read_block-in-Block-clause-built : goal.returns-in_ok-read_block-in-Block-clause-built
-returns-in_ok-read_block-in-Block-clause-built g c =
-    let form = rw c.in-Block.is at c.in_ok-core.ensures.form in
-    IfOk-weaker c.parent-in-Block.result _ _
-    (λ _ _. built_block (g.S.Store.shape c.args.store.now) c.args.dir (g.S.Store.image c.args.store.now) c.read_form.new.inode c.in_ok-core.core c.in-Block.block c.in_ok-core.ensures.bytes c.in_ok-core.ensures.sound form)
-    c.parent-in-Block.ensures.holds
