@@ -47,4 +47,3 @@ pub record IsTaken (near : Option ℕ) (old new : List ℕ) (block : ℕ) : Type
 -- a block of the pool that is given is free from then on, and no other block changes
 abbrev pub IsGiven : List ℕ → List ℕ → List ℕ → ℕ → Type 0
 IsGiven pool old new block = (other : ℕ) → Contains new other ↔ (Contains old other ⊎ (Contains pool other × (other ≡ block)))
-
