@@ -18,7 +18,13 @@ add() {
     esac
 }
 
-# While a crate is proved, a terminal is shown for how long.
+# show_state TEXT LOG: shows in a line of the terminal how many functions of a crate are proved, and after how many seconds.
+show_state() {
+    local functions
+    functions=$(sed -n 's/^so far: \([0-9]* of [0-9]* functions\).*/, \1/p' "$2" | tail -n 1)
+    printf '\r%s%s, %d s' "$1" "$functions" "$SECONDS" >&2
+}
+
 ticker=
 stop_ticker() {
     [ -n "$ticker" ] || return 0
@@ -30,7 +36,7 @@ trap stop_ticker EXIT
 
 start_ticker() {
     while kill -0 $$ 2>/dev/null; do
-        printf '\r%s: %d s' "$1" "$SECONDS" >&2
+        show_state "$@"
         sleep 1
     done &
     ticker=$!
@@ -42,9 +48,10 @@ prove() {
     place=$((place + 1))
     local what="proving $2, crate $place of ${#crates[@]}" log=$top/demo/build-$2.log status=0
     SECONDS=0
-    if [ -t 2 ]; then start_ticker "$what"; else echo "$what" >&2; fi
+    : >"$log"
+    if [ -t 2 ]; then start_ticker "$what" "$log"; else echo "$what" >&2; fi
     (cd "$top/crates/$2" && rt "$1") >"$log" 2>&1 || status=$?
-    if [ -t 2 ]; then stop_ticker; printf '\r%s: %d s\n' "$what" "$SECONDS" >&2; fi
+    if [ -t 2 ]; then stop_ticker; show_state "$what" "$log"; echo >&2; fi
     # A program that was built is also run, and ends with its own status.
     [ "$status" = 0 ] || grep -q "^rt: running out/$2" "$log" || { tail "$log" >&2; exit 1; }
 }
