@@ -1,13 +1,47 @@
 //! The trusted edge: a machine over an open file and an output, and a source over a reader. They tell no content.
 
-ghost use Rattle.std.specs.Prelude.{◌≡◌, ◌+◌, ◌*◌, ◌^◌, ◌<◌, ◌≤◌, length, IfOk};
+ghost use Rattle.std.specs.Prelude.{◌≡◌, ◌+◌, ◌*◌, ◌^◌, ◌<◌, ◌≤◌, length, IfOk, Ok};
+ghost use Rattle.xn_bytes.specs.Causes.{HasCause};
 
 use std::fs::OpenFile;
 use std::io;
 use std::io::{ErrorKind, Read, Seek, SeekFrom, Write};
+use std::os::unix::fs::FileExt;
 use xn_machine::{Failed, Machine, Source};
 
 const SECTOR: u64 = 512;
+
+/// How many calls of one kind failed, and why the last of them did.
+#[derive(Drop)]
+pub struct Faults {
+    count: u64,
+    pub last: Option<io::Error>,
+    ghost small: { count < 2 ^ 64 },
+}
+
+impl Faults {
+    fn none() -> Faults {
+        Faults {
+            count: 0,
+            last: None,
+        }
+    }
+
+    /// Counts the call if it failed, and remembers why.
+    fn note<T>(&mut self, answer: io::Result<T>) -> Result<T, Failed>
+        ensures value { IfOk result (λ value. answer ≡ Ok value) }
+        ensures cause { HasCause self.old.count self.new.count result }
+    {
+        match answer {
+            Ok(value) => Ok(value),
+            Err(error) => {
+                self.count = self.count.saturating_add(1);
+                self.last = Some(error);
+                Err(Failed)
+            }
+        }
+    }
+}
 
 /// The device over an open file, if there is one, and an output.
 #[derive(Drop)]
@@ -16,38 +50,36 @@ pub struct FileMachine<F: Drop, W: Drop> {
     output: W,
     sectors: u64,
     reads: u64,
-    read_faults: u64,
-    write_faults: u64,
-    say_faults: u64,
+    pub read_faults: Faults,
+    pub write_faults: Faults,
+    pub say_faults: Faults,
     ghost fits: { sectors * 512 < 2 ^ 64 },
-    ghost counts: { (reads < 2 ^ 64) × (read_faults < 2 ^ 64) × (write_faults < 2 ^ 64) × (say_faults < 2 ^ 64) },
+    ghost counts: { reads < 2 ^ 64 },
 }
 
-impl<F: Read + Write + Seek + OpenFile + Drop, W: Write + Drop> FileMachine<F, W> {
-    /// The device over a file, with as many sectors as the file has now.
-    pub fn over(file: F, output: W) -> io::Result<FileMachine<F, W>> {
-        let sectors = file.metadata()?.len() / SECTOR;
-        Ok(FileMachine {
-            file: Some(file),
-            output,
-            sectors,
-            reads: 0,
-            read_faults: 0,
-            write_faults: 0,
-            say_faults: 0,
-        })
+impl<F: FileExt + Seek + OpenFile + Drop, W: Write + Drop> FileMachine<F, W> {
+    /// The device over a file or a block device, with as many sectors as it has now.
+    pub fn over(mut file: F, output: W) -> io::Result<FileMachine<F, W>> {
+        let sectors = file.seek(SeekFrom::End(0))? / SECTOR;
+        Ok(FileMachine::new(Some(file), output, sectors))
     }
 
     /// No device, but an output.
     pub fn without_file(output: W) -> FileMachine<F, W> {
+        FileMachine::new(None, output, 0)
+    }
+
+    fn new(file: Option<F>, output: W, sectors: u64) -> FileMachine<F, W>
+        requires { sectors * 512 < 2 ^ 64 }
+    {
         FileMachine {
-            file: None,
+            file,
             output,
-            sectors: 0,
+            sectors,
             reads: 0,
-            read_faults: 0,
-            write_faults: 0,
-            say_faults: 0,
+            read_faults: Faults::none(),
+            write_faults: Faults::none(),
+            say_faults: Faults::none(),
         }
     }
 
@@ -58,50 +90,57 @@ impl<F: Read + Write + Seek + OpenFile + Drop, W: Write + Drop> FileMachine<F, W
     }
 }
 
-fn read_at<F: Read + Seek>(file: &mut Option<F>, at: u64, into: &mut [u8]) -> io::Result<()> {
-    let Some(file) = file else {
-        return Err(io::Error::from(ErrorKind::NotFound));
-    };
-    file.seek(SeekFrom::Start(at))?;
-    let mut done = 0;
-    while done < into.len() {
-        let count = file.read(&mut into[done..])?;
-        if count == 0 {
-            return Err(io::Error::from(ErrorKind::UnexpectedEof));
-        }
-        done += count;
-    }
-    Ok(())
+fn opened<F>(file: &Option<F>) -> io::Result<&F> {
+    file.as_ref().ok_or(io::Error::from(ErrorKind::NotFound))
 }
 
-fn write_at<F: Write + Seek>(file: &mut Option<F>, at: u64, bytes: &[u8]) -> io::Result<()> {
-    let Some(file) = file else {
-        return Err(io::Error::from(ErrorKind::NotFound));
-    };
-    file.seek(SeekFrom::Start(at))?;
-    write_whole(file, bytes)
+fn read_at<F: FileExt>(file: &Option<F>, sector: u64, into: &mut [u8]) -> io::Result<()>
+    requires { sector * 512 < 2 ^ 64 }
+{
+    opened(file)?.read_exact_at(into, sector * SECTOR)
 }
 
+fn write_at<F: FileExt>(file: &Option<F>, sector: u64, bytes: &[u8]) -> io::Result<()>
+    requires { sector * 512 < 2 ^ 64 }
+{
+    opened(file)?.write_all_at(bytes, sector * SECTOR)
+}
+
+fn sync<F: OpenFile>(file: &Option<F>) -> io::Result<()> {
+    opened(file)?.sync_all()
+}
+
+/// Writes all bytes, however often signals interrupt it.
 fn write_whole<W: Write>(output: &mut W, bytes: &[u8]) -> io::Result<()> {
-    let mut done = 0;
-    while done < bytes.len() {
-        let count = output.write(&bytes[done..])?;
-        if count == 0 {
-            return Err(io::Error::from(ErrorKind::WriteZero));
+    let mut rest = bytes;
+    for _ in 0..u64::MAX {
+        if rest.is_empty() {
+            return output.flush();
         }
-        done += count;
+        match output.write(rest) {
+            Ok(0) => return Err(io::Error::from(ErrorKind::WriteZero)),
+            Ok(count) => rest = &rest[count..],
+            Err(error) if error.kind() == ErrorKind::Interrupted => {}
+            Err(error) => return Err(error),
+        }
     }
-    output.flush()
+    Err(io::Error::from(ErrorKind::TimedOut))
 }
 
-fn sync_file<F: OpenFile>(file: &Option<F>) -> io::Result<()> {
-    match file {
-        Some(file) => file.sync_all(),
-        None => Ok(()),
+/// Reads once, and again where a signal interrupts it.
+fn read_some<R: Read>(input: &mut R, into: &mut [u8]) -> io::Result<usize>
+    ensures { IfOk result (λ count. count ≤ length into.new) }
+{
+    for _ in 0..u64::MAX {
+        match input.read(into) {
+            Err(error) if error.kind() == ErrorKind::Interrupted => {}
+            answer => return answer,
+        }
     }
+    Err(io::Error::from(ErrorKind::TimedOut))
 }
 
-impl<F: Read + Write + Seek + OpenFile + Drop, W: Write + Drop> Machine for FileMachine<F, W> {
+impl<F: FileExt + Seek + OpenFile + Drop, W: Write + Drop> Machine for FileMachine<F, W> {
     ghost use Rattle.std.specs.Prelude.{None};
 
     ghost image = { λ _. None };
@@ -110,11 +149,11 @@ impl<F: Read + Write + Seek + OpenFile + Drop, W: Write + Drop> Machine for File
 
     ghost sector_count = { λ m. m.sectors };
 
-    ghost read_faults = { λ m. m.read_faults };
+    ghost read_faults = { λ m. m.read_faults.count };
 
-    ghost write_faults = { λ m. m.write_faults };
+    ghost write_faults = { λ m. m.write_faults.count };
 
-    ghost say_faults = { λ m. m.say_faults };
+    ghost say_faults = { λ m. m.say_faults.count };
 
     ghost reads = { λ m. m.reads };
 
@@ -124,35 +163,19 @@ impl<F: Read + Write + Seek + OpenFile + Drop, W: Write + Drop> Machine for File
 
     fn read(&mut self, sector: u64, into: &mut [u8]) -> Result<(), Failed> {
         self.reads = self.reads.saturating_add(1);
-        if read_at(&mut self.file, sector * SECTOR, into).is_err() {
-            self.read_faults = self.read_faults.saturating_add(1);
-            return Err(Failed);
-        }
-        Ok(())
+        self.read_faults.note(read_at(&self.file, sector, into))
     }
 
     fn write(&mut self, sector: u64, bytes: &[u8]) -> Result<(), Failed> {
-        if write_at(&mut self.file, sector * SECTOR, bytes).is_err() {
-            self.write_faults = self.write_faults.saturating_add(1);
-            return Err(Failed);
-        }
-        Ok(())
+        self.write_faults.note(write_at(&self.file, sector, bytes))
     }
 
     fn sync(&mut self) -> Result<(), Failed> {
-        if sync_file(&self.file).is_err() {
-            self.write_faults = self.write_faults.saturating_add(1);
-            return Err(Failed);
-        }
-        Ok(())
+        self.write_faults.note(sync(&self.file))
     }
 
     fn say(&mut self, bytes: &[u8]) -> Result<(), Failed> {
-        if write_whole(&mut self.output, bytes).is_err() {
-            self.say_faults = self.say_faults.saturating_add(1);
-            return Err(Failed);
-        }
-        Ok(())
+        self.say_faults.note(write_whole(&mut self.output, bytes))
     }
 }
 
@@ -160,13 +183,15 @@ impl<F: Read + Write + Seek + OpenFile + Drop, W: Write + Drop> Machine for File
 #[derive(Drop)]
 pub struct FileSource<R: Drop> {
     input: R,
-    faults: u64,
-    ghost count: { faults < 2 ^ 64 },
+    pub faults: Faults,
 }
 
 impl<R: Read + Drop> FileSource<R> {
     pub fn over(input: R) -> FileSource<R> {
-        FileSource { input, faults: 0 }
+        FileSource {
+            input,
+            faults: Faults::none(),
+        }
     }
 }
 
@@ -175,15 +200,9 @@ impl<R: Read + Drop> Source for FileSource<R> {
 
     ghost left = { λ _. None };
 
-    ghost faults = { λ s. s.faults };
+    ghost faults = { λ s. s.faults.count };
 
     fn read(&mut self, into: &mut [u8]) -> Result<usize, Failed> {
-        match self.input.read(into) {
-            Ok(count) => Ok(count),
-            Err(_) => {
-                self.faults = self.faults.saturating_add(1);
-                Err(Failed)
-            }
-        }
+        self.faults.note(read_some(&mut self.input, into))
     }
 }

@@ -3,10 +3,12 @@
 #![tactic(auto)]
 
 mod answer;
+mod complaints;
 mod files;
 mod home;
 mod top;
 
+use complaints::{cannot_open, explain};
 use files::{FileMachine, FileSource};
 use std::env::Env;
 use std::fs::{File, Files};
@@ -26,14 +28,14 @@ fn main(rt: HostRuntime) -> ExitCode {
 }
 
 /// Opens what the words name and makes the program's one call.
-fn run<R: Env + Files + Input + Print + Eprint + AllocGlobal>(rt: &R) -> u8 {
-    match arguments(rt) {
-        Ok(words) => match Words::read(rt.alloc(), &words) {
-            Ok(_) => run_on_files(rt, &words),
-            Err(WordsFault::Usage) => run_without_files(rt, &words),
-            Err(WordsFault::Memory) => Status::Memory.number(),
-        },
-        Err(_) => Status::Memory.number(),
+fn run<R: Env + Files<File = File> + Input + Print + Eprint + AllocGlobal>(rt: &R) -> u8 {
+    let Ok(words) = arguments(rt) else {
+        return end_without_memory(rt);
+    };
+    match Words::read(rt.alloc(), &words) {
+        Ok(_) => run_on_files(rt, &words),
+        Err(WordsFault::Usage) => run_without_files(rt, &words),
+        Err(WordsFault::Memory) => end_without_memory(rt),
     }
 }
 
@@ -52,40 +54,57 @@ fn arguments<R: Env + AllocGlobal>(rt: &R) -> io::Result<Vec<String>> {
     }
 }
 
-fn run_without_files<R: Files + Print + AllocGlobal>(rt: &R, words: &[String]) -> u8 {
+fn end_without_memory<R: Eprint>(rt: &R) -> u8 {
+    explain(rt, Status::Memory, &[], None);
+    Status::Memory.number()
+}
+
+fn run_without_files<R: Print + Eprint + AllocGlobal>(rt: &R, words: &[String]) -> u8 {
     let alloc = rt.alloc();
-    let mut machine = FileMachine::<R::File, _>::without_file(io::writer(rt));
+    let mut machine = FileMachine::<File, _>::without_file(io::writer(rt));
     let mut manifest = MemSource::new(Vec::new(alloc), Vec::new(alloc));
     let mut script = MemSource::new(Vec::new(alloc), Vec::new(alloc));
-    xfsns(alloc, words, &mut machine, &mut manifest, &mut script).number()
+    let status = xfsns(alloc, words, &mut machine, &mut manifest, &mut script);
+    explain(rt, status, &[], machine.say_faults.last);
+    status.number()
 }
 
 /// The words are a form with IMAGE and MANIFEST as its second and third word.
-fn run_on_files<R: Files + Input + Print + Eprint + AllocGlobal>(rt: &R, words: &[String]) -> u8 {
+fn run_on_files<R: Files<File = File> + Input + Print + Eprint + AllocGlobal>(
+    rt: &R,
+    words: &[String],
+) -> u8 {
     let [_, image, manifest, ..] = words else {
-        return Status::Usage.number();
+        return run_without_files(rt, words);
     };
-    let Ok(mut machine) = open_image(rt, image) else {
-        return cannot_open(rt, image);
+    let mut machine = match open_image(rt, image) {
+        Ok(machine) => machine,
+        Err(reason) => return end_unopened(rt, image, reason),
     };
-    let Ok(manifest_file) = File::open(rt, manifest.as_str()) else {
-        return cannot_open(rt, manifest);
+    let mut source = match File::open(rt, manifest.as_str()) {
+        Ok(file) => FileSource::over(file),
+        Err(reason) => return end_unopened(rt, manifest, reason),
     };
-    let mut manifest = FileSource::over(manifest_file);
     let mut script = FileSource::over(rt.reader());
-    xfsns(rt.alloc(), words, &mut machine, &mut manifest, &mut script).number()
+    let status = xfsns(rt.alloc(), words, &mut machine, &mut source, &mut script);
+    let reads = [
+        (image.as_str(), machine.read_faults.last),
+        (manifest.as_str(), source.faults.last),
+        ("standard input", script.faults.last),
+    ];
+    explain(rt, status, &reads, machine.say_faults.last);
+    status.number()
 }
 
-fn open_image<'a, R: Files + Print>(
+fn open_image<'a, R: Files<File = File> + Print>(
     rt: &'a R,
     image: &str,
-) -> io::Result<FileMachine<R::File, io::Printer<'a, R>>> {
+) -> io::Result<FileMachine<File, io::Printer<'a, R>>> {
     FileMachine::over(File::open(rt, image)?, io::writer(rt))
 }
 
-fn cannot_open<R: Eprint>(rt: &R, word: &str) -> u8 {
-    // Nobody is left to tell that this line could not be told.
-    let _ = eprintln!(rt; "cannot open {word}");
+fn end_unopened<R: Eprint>(rt: &R, word: &str, reason: io::Error) -> u8 {
+    cannot_open(rt, word, reason);
     CANNOT_OPEN
 }
 

@@ -8,6 +8,12 @@ use crate::number::read_decimal;
 use std::alloc::{AllocError, Global};
 use xn_bytes::{Bytes, EscapeFault, unescape};
 
+/// The forms of words and what each is for, a line each.
+pub const FORMS: &str = "\
+xfsns list IMAGE MANIFEST INO: a directory's entries
+xfsns resolve IMAGE MANIFEST PATH: the inode that a path leads to
+";
+
 /// What the words ask for.
 #[derive(Debug, Drop)]
 pub enum Words {
