@@ -1,266 +1,144 @@
 //! `list`: its replies and its refusals.
 
-use super::images::{
-    Change, DIRECTORY_START, FILES_START, FORM_OF_ONE, INODE_START, changed, image_naming, put,
-};
-use super::list;
+use super::check_rows;
 use std::test::Fail;
-use xn_bytes::{Status, put_checksum};
-use xn_make::block_image;
 
-/// `a` to inode 0x100000083, a regular file.
-const WIDE: &[u8; 23] =
-    b"\x01\x01\x00\x00\x00\x00\x00\x00\x00\x80\x01\x00\x60a\x01\x00\x00\x00\x01\x00\x00\x00\x83";
+/// A root in short form.
+const SHORT_ROWS: &str = r"
+# one entry, a wide inode number, none, and two in the other order
+list IMAGE MANIFEST 128 | short:0100_00000080_010060'a'01_00000083 | 0 ok 1 / 131 reg a
+list IMAGE MANIFEST 128 | short:0101_0000000000000080_010060'a'01_0000000100000083 | 0 ok 1 / 4294967427 reg a
+list IMAGE MANIFEST 128 | short:0000_00000080 | 0 ok 0
+list IMAGE MANIFEST 128 | short:0200_00000080_020060'b'2002_00000084_010070'a'07_00000083 | 0 ok 2 / 131 lnk a / 132 dir b\20
+list IMAGE MANIFEST 128 | demo | 0 ok 3 / 131 reg a / 133 dir caf\c3\a9 / 132 reg file\20one
+list IMAGE MANIFEST 133 | demo | 0 ok 1 / 134 reg menu
 
-/// `a` to 132, and `a` to 131.
-const TWICE: &[u8; 24] =
-    b"\x02\x00\x00\x00\x00\x80\x01\x00\x60a\x01\x00\x00\x00\x84\x01\x00\x70a\x07\x00\x00\x00\x83";
+# broken inodes: the magic, a mode of no kind, the format, the fork offset, the attribute fork's format
+list IMAGE MANIFEST 128 | short:0100_00000080_010060'a'01_00000083 inode:128 0=4a | 2 image rule 10 inode 128 block 0
+list IMAGE MANIFEST 128 | short:0100_00000080_010060'a'01_00000083 inode:128 2=00 | 2 image rule 11 inode 128 block 0
+list IMAGE MANIFEST 128 | short:0100_00000080_010060'a'01_00000083 inode:128 5=03 | 2 image rule 11 inode 128 block 0
+list IMAGE MANIFEST 128 | short:0100_00000080_010060'a'01_00000083 inode:128 82=2a | 2 image rule 11 inode 128 block 0
+list IMAGE MANIFEST 128 | short:0100_00000080_010060'a'01_00000083 inode:128 83=03 | 2 image rule 11 inode 128 block 0
+# the size past the fork and one byte more, the name's kind, the name `/`
+list IMAGE MANIFEST 128 | short:0100_00000080_010060'a'01_00000083 inode:128 63=c1 | 2 image rule 15 inode 128 block 0
+list IMAGE MANIFEST 128 | short:0100_00000080_010060'a'01_00000083 inode:128 63=10 | 2 image rule 16 inode 128 block 0
+list IMAGE MANIFEST 128 | short:0100_00000080_010060'a'01_00000083 inode:128 186=09 | 2 image rule 16 inode 128 block 0
+list IMAGE MANIFEST 128 | short:0100_00000080_010060'a'01_00000083 inode:128 185='/' | 2 image rule 21 inode 128 block 0
 
-const ELEVEN: &str =
-    "ok 11\n144 reg entry-0001\n145 reg entry-0002\n146 reg entry-0003\n147 reg entry-0004\n\
-148 reg entry-0005\n149 reg entry-0006\n150 reg entry-0007\n151 reg entry-0008\n152 reg entry-0009\n\
-153 reg entry-0010\n154 reg entry-0011\n";
+# a name that stands twice
+list IMAGE MANIFEST 128 | short:0200_00000080_010060'a'01_00000084_010070'a'07_00000083 | 2 image rule 21 inode 128 block 0
+# names of one hash, 0x30c1
+list IMAGE MANIFEST 128 | short:0200_00000080_020060'aA'01_00000090_020070'`'c101_00000091 | 0 ok 2 / 145 reg `\c1 / 144 reg aA
+";
 
-const NO_ENTRY: &str = "error 2 ENOENT\n";
+/// A root in block form, its inode and its block.
+const BLOCK_ROWS: &str = r"
+# a name that stands twice, or is none
+list IMAGE MANIFEST 128 | block:'a','a' | 2 image rule 21 inode 128 block 0
+list IMAGE MANIFEST 128 | block:'a/b','c' | 2 image rule 21 inode 128 block 0
+list IMAGE MANIFEST 128 | block:'c','..' | 2 image rule 21 inode 128 block 0
+list IMAGE MANIFEST 128 | block:'c',00 | 2 image rule 21 inode 128 block 0
+# names of one hash, 0x30c1
+list IMAGE MANIFEST 128 | block:'aA','`'c1 | 0 ok 2 / 145 reg `\c1 / 144 reg aA
 
-const NO_DIRECTORY: &str = "error 20 ENOTDIR\n";
+# a place in an entry that is not its own
+list IMAGE MANIFEST 128 | block data:40 118=0068 | 2 image rule 17 inode 128 block 40
+# free regions that touch
+list IMAGE MANIFEST 128 | block data:40 48=01880e0801680020 362=0020 390=0168ffff0e08 3982=0188 | 2 image rule 17 inode 128 block 40
+# the length in a pair of the header
+list IMAGE MANIFEST 128 | block data:40 50=0e20 | 2 image rule 17 inode 128 block 40
+# the other magic number, with a free region up to the end
+list IMAGE MANIFEST 128 | block data:40 0='XDD3' 50=0e98 362=0e98 4094=0168 | 2 image rule 17 inode 128 block 40
+# another owner, another block's place, another uuid
+list IMAGE MANIFEST 128 | block data:40 47=81 | 2 image rule 17 inode 128 block 40
+list IMAGE MANIFEST 128 | block data:40 14=0148 | 2 image rule 17 inode 128 block 40
+list IMAGE MANIFEST 128 | block data:40 24=01 | 2 image rule 17 inode 128 block 40
+# leaf entries in the other order, and a stale one too many
+list IMAGE MANIFEST 128 | block data:40 3984=0000172e0000000a0000002e00000008 | 2 image rule 18 inode 128 block 40
+list IMAGE MANIFEST 128 | block data:40 4092=00000001 | 2 image rule 18 inode 128 block 40
+# a leaf entry of a free region, one of another entry, and a stale one that is an entry's
+list IMAGE MANIFEST 128 | block data:40 4012=0000002d | 2 image rule 19 inode 128 block 0
+list IMAGE MANIFEST 128 | block data:40 4012=00000027 | 2 image rule 19 inode 128 block 0
+list IMAGE MANIFEST 128 | block data:40 4012=00000000 4092=00000001 | 2 image rule 19 inode 128 block 0
+
+# broken inodes: the version, the own number, the uuid
+list IMAGE MANIFEST 128 | block inode:128 4=02 | 2 image rule 10 inode 128 block 0
+list IMAGE MANIFEST 128 | block inode:128 159=81 | 2 image rule 10 inode 128 block 0
+list IMAGE MANIFEST 128 | block inode:128 160=01 | 2 image rule 10 inode 128 block 0
+# the fork offset, the formats of the forks
+list IMAGE MANIFEST 128 | block inode:128 82=2a | 2 image rule 11 inode 128 block 0
+list IMAGE MANIFEST 128 | block inode:128 5=03 | 2 image rule 11 inode 128 block 0
+list IMAGE MANIFEST 128 | block inode:128 83=03 | 2 image rule 11 inode 128 block 0
+# the flag of the extent; its block is 0, the first and the last of the log, the one behind the image; no block
+list IMAGE MANIFEST 128 | block inode:128 176=80 | 2 image rule 13 inode 128 block 0
+list IMAGE MANIFEST 128 | block inode:128 188=00000001 | 2 image rule 13 inode 128 block 0
+list IMAGE MANIFEST 128 | block inode:128 188=08000001 | 2 image rule 13 inode 128 block 0
+list IMAGE MANIFEST 128 | block inode:128 188=47e00001 | 2 image rule 13 inode 128 block 0
+list IMAGE MANIFEST 128 | block inode:128 188=48000001 | 2 image rule 13 inode 128 block 0
+list IMAGE MANIFEST 128 | block inode:128 188=05000000 | 2 image rule 13 inode 128 block 0
+# the size
+list IMAGE MANIFEST 128 | block inode:128 62=20 | 2 image rule 15 inode 128 block 0
+list IMAGE MANIFEST 128 | block inode:128 62=00 | 2 image rule 15 inode 128 block 0
+
+# wrong checksums: the root's inode, and its block
+list IMAGE MANIFEST 128 | block raw:65628 0=ff | 2 image rule 10 inode 128 block 0
+list IMAGE MANIFEST 128 | block raw:163856 0=ff | 2 image rule 17 inode 128 block 40
+list IMAGE MANIFEST 128 | block raw:164000 0='x' | 2 image rule 17 inode 128 block 40
+list IMAGE MANIFEST 128 | block raw:0 65600='x' 164000='x' | 2 image rule 10 inode 128 block 0
+list IMAGE MANIFEST 128 | block raw:0 10='x' 65600='x' 164000='x' | 2 image rule 1 inode 0 block 0
+";
+
+/// Which inodes are listed, and what comes first of two causes.
+const CAUSE_ROWS: &str = r"
+list IMAGE MANIFEST 128 | block | 0 ok 11 / 144 reg entry-0001 / 145 reg entry-0002 / 146 reg entry-0003 / 147 reg entry-0004 / 148 reg entry-0005 / 149 reg entry-0006 / 150 reg entry-0007 / 151 reg entry-0008 / 152 reg entry-0009 / 153 reg entry-0010 / 154 reg entry-0011
+list IMAGE MANIFEST 146 | block | 0 error 20 ENOTDIR
+list IMAGE MANIFEST 129 | block | 0 error 2 ENOENT
+list IMAGE MANIFEST 4608 | block | 0 error 2 ENOENT
+list IMAGE MANIFEST 18446744073709551615 | block | 0 error 2 ENOENT
+list IMAGE MANIFEST 130 | block | 2 image rule 10 inode 130 block 0
+# the same where it is the superblock's own, the bitmap's
+list IMAGE MANIFEST 130 | block super 71=82 | 0 error 2 ENOENT
+
+# superblocks that are refused: none, without parent pointers, one sector too few, a wrong checksum. No inode
+# has the large number, which comes behind.
+list IMAGE MANIFEST 128 | none | 2 image rule 1 inode 0 block 0
+list IMAGE MANIFEST 18446744073709551615 | none | 2 image rule 1 inode 0 block 0
+list IMAGE MANIFEST 18446744073709551615 | block super 219=01 | 2 image rule 1 inode 0 block 0
+list IMAGE MANIFEST 18446744073709551615 | block sectors:4607 | 2 image rule 1 inode 0 block 0
+list IMAGE MANIFEST 18446744073709551615 | block raw:0 10='x' | 2 image rule 1 inode 0 block 0
+
+# two causes of a file: it has no links; it has no attribute fork
+list IMAGE MANIFEST 144 | block inode:144 19=00 | 0 error 20 ENOTDIR
+list IMAGE MANIFEST 144 | block inode:144 82=00 | 2 image rule 11 inode 144 block 0
+
+# two causes of a directory that has no link: with one, with one and no attribute fork, with no attribute fork alone
+list IMAGE MANIFEST 129 | block inode:129 19=01 | 0 ok 0
+list IMAGE MANIFEST 129 | block inode:129 19=01 82=00 | 2 image rule 11 inode 129 block 0
+list IMAGE MANIFEST 129 | block inode:129 82=00 | 2 image rule 11 inode 129 block 0
+# another version and no attribute fork, a form of too few bytes, in no block, in no block with a link
+list IMAGE MANIFEST 129 | block inode:129 4=02 82=00 | 2 image rule 10 inode 129 block 0
+list IMAGE MANIFEST 129 | block inode:129 63=05 | 0 error 2 ENOENT
+list IMAGE MANIFEST 129 | block inode:129 5=02 | 0 error 2 ENOENT
+list IMAGE MANIFEST 129 | block inode:129 5=02 19=01 | 11 unbuilt
+
+# two causes of the root: its extent has two blocks, and is flagged; two blocks, and the inode has the size of one
+list IMAGE MANIFEST 128 | block inode:128 176=80 191=02 | 2 image rule 13 inode 128 block 0
+list IMAGE MANIFEST 128 | block inode:128 191=02 | 11 unbuilt
+# no link and no attribute fork
+list IMAGE MANIFEST 128 | block inode:128 19=00 82=00 | 0 ok 11 / 144 reg entry-0001 / 145 reg entry-0002 / 146 reg entry-0003 / 147 reg entry-0004 / 148 reg entry-0005 / 149 reg entry-0006 / 150 reg entry-0007 / 151 reg entry-0008 / 152 reg entry-0009 / 153 reg entry-0010 / 154 reg entry-0011
+";
 
 #[test]
-fn directories_in_short_form(rt: HostRuntime) -> Result<(), Fail> {
-    let alloc = rt.alloc();
-    let cases: [(&[u8], &str); 4] = [
-        (FORM_OF_ONE, "ok 1\n131 reg a\n"),
-        (WIDE, "ok 1\n4294967427 reg a\n"),
-        (b"\x00\x00\x00\x00\x00\x80", "ok 0\n"),
-        (
-            b"\x02\x00\x00\x00\x00\x80\x02\x00\x60b \x02\x00\x00\x00\x84\x01\x00\x70a\x07\x00\x00\x00\x83",
-            "ok 2\n131 lnk a\n132 dir b\\20\n",
-        ),
-    ];
-    for (form, wanted) in cases {
-        if form.len() > xn_make::DATA_FORK {
-            return Err(Fail::from("the form is too long for the fork"));
-        }
-        let (status, told) = list(alloc, xn_make::image(alloc, form)?, "128")?;
-        assert_eq!(rt; status, Status::Done);
-        assert_eq!(rt; told.as_str(), wanted);
-    }
-    Ok(())
+fn roots_in_short_form(rt: HostRuntime) -> Result<(), Fail> {
+    check_rows(&rt, "short form", SHORT_ROWS)
 }
 
 #[test]
-fn inodes_of_an_image_in_block_form(rt: HostRuntime) -> Result<(), Fail> {
-    let alloc = rt.alloc();
-    let cases = [
-        ("128", ELEVEN),
-        ("146", NO_DIRECTORY),
-        ("129", NO_ENTRY),
-        ("4608", NO_ENTRY),
-        ("18446744073709551615", NO_ENTRY),
-    ];
-    for (ino, wanted) in cases {
-        let (status, told) = list(alloc, block_image(alloc)?, ino)?;
-        assert_eq!(rt; status, Status::Done, "inode {ino}");
-        assert_eq!(rt; told.as_str(), wanted, "inode {ino}");
-    }
-    Ok(())
+fn roots_in_block_form(rt: HostRuntime) -> Result<(), Fail> {
+    check_rows(&rt, "block form", BLOCK_ROWS)
 }
 
 #[test]
-fn an_inode_of_the_superblocks_own(rt: HostRuntime) -> Result<(), Fail> {
-    let alloc = rt.alloc();
-    // The bitmap's inode is 130, whose sector is zeros and so breaks rule 10: that comes behind.
-    let mut superblock = xn_make::superblock();
-    superblock[71] = 130;
-    put_checksum(&mut superblock, 224);
-    let mut image = block_image(alloc)?;
-    put(&mut image, 0, &superblock)?;
-    let (status, told) = list(alloc, image, "130")?;
-    assert_eq!(rt; status, Status::Done);
-    assert_eq!(rt; told.as_str(), NO_ENTRY);
-    let (status, told) = list(alloc, block_image(alloc)?, "130")?;
-    assert_eq!(rt; status, Status::Image);
-    assert_eq!(rt; told.as_str(), "image rule 10 inode 130 block 0\n");
-    Ok(())
-}
-
-#[test]
-fn images_whose_superblock_is_refused(rt: HostRuntime) -> Result<(), Fail> {
-    let alloc = rt.alloc();
-    let mut no_parent = xn_make::superblock();
-    no_parent[219] = 1;
-    put_checksum(&mut no_parent, 224);
-    let mut other = block_image(alloc)?;
-    put(&mut other, 0, &no_parent)?;
-    let mut short = block_image(alloc)?;
-    short.truncate(512 * 4607);
-    let images = [Vec::new(alloc), other, short];
-    for image in Vec::from_array(alloc, images)? {
-        // No inode of that number is live, which comes behind rule 1.
-        let (status, told) = list(alloc, image, "18446744073709551615")?;
-        assert_eq!(rt; status, Status::Image);
-        assert_eq!(rt; told.as_str(), "image rule 1 inode 0 block 0\n");
-    }
-    Ok(())
-}
-
-#[test]
-fn broken_inodes_in_short_form(rt: HostRuntime) -> Result<(), Fail> {
-    let alloc = rt.alloc();
-    // (place, byte, what is told): the magic, a mode of no kind, the format, the fork offset, the attribute fork's format,
-    // the size past the fork and one byte more, the name's kind, the name `/`.
-    let cases: [(usize, &[u8], &str); 9] = [
-        (0, &[0x4a], "image rule 10 inode 128 block 0\n"),
-        (2, &[0], "image rule 11 inode 128 block 0\n"),
-        (5, &[3], "image rule 11 inode 128 block 0\n"),
-        (82, &[42], "image rule 11 inode 128 block 0\n"),
-        (83, &[3], "image rule 11 inode 128 block 0\n"),
-        (63, &[193], "image rule 15 inode 128 block 0\n"),
-        (63, &[16], "image rule 16 inode 128 block 0\n"),
-        (186, &[9], "image rule 16 inode 128 block 0\n"),
-        (185, b"/", "image rule 21 inode 128 block 0\n"),
-    ];
-    for (at, bytes, wanted) in cases {
-        let image = changed(
-            xn_make::image(alloc, FORM_OF_ONE)?,
-            INODE_START,
-            &[(at, bytes)],
-        )?;
-        let (status, told) = list(alloc, image, "128")?;
-        assert_eq!(rt; status, Status::Image, "byte {at}");
-        assert_eq!(rt; told.as_str(), wanted, "byte {at}");
-    }
-    Ok(())
-}
-
-#[test]
-fn a_name_that_stands_twice(rt: HostRuntime) -> Result<(), Fail> {
-    let alloc = rt.alloc();
-    let images = [
-        xn_make::image(alloc, TWICE)?,
-        image_naming(alloc, b"a", b"a")?,
-    ];
-    for image in Vec::from_array(alloc, images)? {
-        let (status, told) = list(alloc, image, "128")?;
-        assert_eq!(rt; status, Status::Image);
-        assert_eq!(rt; told.as_str(), "image rule 21 inode 128 block 0\n");
-    }
-    Ok(())
-}
-
-#[test]
-fn broken_blocks(rt: HostRuntime) -> Result<(), Fail> {
-    let alloc = rt.alloc();
-    let cases: [(&str, &[Change], &str); 4] = [
-        (
-            "an entry's own place",
-            &[(118, &[0, 0x68])],
-            "image rule 17 inode 128 block 40\n",
-        ),
-        (
-            "the owner",
-            &[(47, &[0x81])],
-            "image rule 17 inode 128 block 40\n",
-        ),
-        (
-            "a stale leaf entry too many",
-            &[(4092, &[0, 0, 0, 1])],
-            "image rule 18 inode 128 block 40\n",
-        ),
-        (
-            "a leaf entry of a free region",
-            &[(4012, &[0, 0, 0, 45])],
-            "image rule 19 inode 128 block 0\n",
-        ),
-    ];
-    for (what, changes, wanted) in cases {
-        let image = changed(block_image(alloc)?, DIRECTORY_START, changes)?;
-        let (status, told) = list(alloc, image, "128")?;
-        assert_eq!(rt; status, Status::Image, "{what}");
-        assert_eq!(rt; told.as_str(), wanted, "{what}");
-    }
-    Ok(())
-}
-
-#[test]
-fn two_causes_of_a_file(rt: HostRuntime) -> Result<(), Fail> {
-    let alloc = rt.alloc();
-    // Inode 144: without links; without an attribute fork.
-    let cases: [(&[Change], Status, &str); 2] = [
-        (&[(19, &[0])], Status::Done, NO_DIRECTORY),
-        (
-            &[(82, &[0])],
-            Status::Image,
-            "image rule 11 inode 144 block 0\n",
-        ),
-    ];
-    for (changes, status, wanted) in cases {
-        let image = changed(block_image(alloc)?, FILES_START, changes)?;
-        let (found, told) = list(alloc, image, "144")?;
-        assert_eq!(rt; found, status);
-        assert_eq!(rt; told.as_str(), wanted);
-    }
-    Ok(())
-}
-
-#[test]
-fn two_causes_of_a_directory(rt: HostRuntime) -> Result<(), Fail> {
-    let alloc = rt.alloc();
-    // Inode 129, which has no link, stands 512 bytes behind the root's: with a link; with a link and no attribute fork; no
-    // link and none; another version and none; a form of too few bytes; in no block; in no block with a link.
-    let cases: [(&[Change], Status, &str); 7] = [
-        (&[(512 + 19, &[1])], Status::Done, "ok 0\n"),
-        (
-            &[(512 + 19, &[1]), (512 + 82, &[0])],
-            Status::Image,
-            "image rule 11 inode 129 block 0\n",
-        ),
-        (
-            &[(512 + 82, &[0])],
-            Status::Image,
-            "image rule 11 inode 129 block 0\n",
-        ),
-        (
-            &[(512 + 4, &[2]), (512 + 82, &[0])],
-            Status::Image,
-            "image rule 10 inode 129 block 0\n",
-        ),
-        (&[(512 + 63, &[5])], Status::Done, NO_ENTRY),
-        (&[(512 + 5, &[2])], Status::Done, NO_ENTRY),
-        (
-            &[(512 + 5, &[2]), (512 + 19, &[1])],
-            Status::Unbuilt,
-            "unbuilt\n",
-        ),
-    ];
-    for (changes, status, wanted) in cases {
-        let image = changed(block_image(alloc)?, INODE_START, changes)?;
-        let (found, told) = list(alloc, image, "129")?;
-        assert_eq!(rt; found, status);
-        assert_eq!(rt; told.as_str(), wanted);
-    }
-    Ok(())
-}
-
-#[test]
-fn two_causes_of_the_root(rt: HostRuntime) -> Result<(), Fail> {
-    let alloc = rt.alloc();
-    // The extent has two blocks, and is flagged; two blocks, and the inode has the size of one; the root has no link and
-    // no attribute fork.
-    let cases: [(&[Change], Status, &str); 3] = [
-        (
-            &[(176, &[0x80]), (191, &[2])],
-            Status::Image,
-            "image rule 13 inode 128 block 0\n",
-        ),
-        (&[(191, &[2])], Status::Unbuilt, "unbuilt\n"),
-        (&[(19, &[0]), (82, &[0])], Status::Done, ELEVEN),
-    ];
-    for (changes, status, wanted) in cases {
-        let image = changed(block_image(alloc)?, INODE_START, changes)?;
-        let (found, told) = list(alloc, image, "128")?;
-        assert_eq!(rt; found, status);
-        assert_eq!(rt; told.as_str(), wanted);
-    }
-    Ok(())
+fn inodes_and_causes(rt: HostRuntime) -> Result<(), Fail> {
+    check_rows(&rt, "causes", CAUSE_ROWS)
 }

@@ -1,208 +1,149 @@
 //! `resolve`: walks of paths, and where they end.
 
-use super::images::{Change, DIRECTORY_START, INODE_START, changed, tree};
-use super::{resolve, run};
-use std::alloc::Global;
+use super::check_rows;
 use std::test::Fail;
-use xn_bytes::Status;
-use xn_make::block_image;
 
-const NO_ENTRY: &str = "error 2 ENOENT\n";
+/// Paths of one part or of none, in a root in block form.
+const PART_ROWS: &str = r"
+resolve IMAGE MANIFEST /entry-0003 | block | 0 ok 146 reg
+resolve IMAGE MANIFEST // | block | 0 ok 128 dir
+resolve IMAGE MANIFEST /none | block | 0 error 2 ENOENT
+resolve IMAGE MANIFEST /entry-0003/x | block | 0 error 20 ENOTDIR
+resolve IMAGE MANIFEST / | block | 0 ok 128 dir
+resolve IMAGE MANIFEST entry-0003 | block | 0 ok 146 reg
+resolve IMAGE MANIFEST /entry-0003/ | block | 0 ok 146 reg
+resolve IMAGE MANIFEST entry-0003/// | block | 0 ok 146 reg
+resolve IMAGE MANIFEST //entry-0011// | block | 0 ok 154 reg
+resolve IMAGE MANIFEST /entry-000 | block | 0 error 2 ENOENT
 
-const NO_DIRECTORY: &str = "error 20 ENOTDIR\n";
+# parts that are no names
+resolve IMAGE MANIFEST /. | block | 0 error 22 EINVAL
+resolve IMAGE MANIFEST /.. | block | 0 error 22 EINVAL
+resolve IMAGE MANIFEST .. | block | 0 error 22 EINVAL
+resolve IMAGE MANIFEST /../entry-0003 | block | 0 error 22 EINVAL
+resolve IMAGE MANIFEST /./entry-0003 | block | 0 error 22 EINVAL
+resolve IMAGE MANIFEST /a\00 | block | 0 error 22 EINVAL
+resolve IMAGE MANIFEST /entry-0003/.. | block | 0 error 20 ENOTDIR
+resolve IMAGE MANIFEST /none/.. | block | 0 error 2 ENOENT
+resolve IMAGE MANIFEST /... | block | 0 error 2 ENOENT
 
-const NO_NAME: &str = "error 22 EINVAL\n";
+# long parts; at the end a byte 0 as the last of 255 and of 256 bytes
+resolve IMAGE MANIFEST {n*255} | block | 0 error 2 ENOENT
+resolve IMAGE MANIFEST {n*256} | block | 0 error 36 ENAMETOOLONG
+resolve IMAGE MANIFEST /{n*255} | block | 0 error 2 ENOENT
+resolve IMAGE MANIFEST /{n*256} | block | 0 error 36 ENAMETOOLONG
+resolve IMAGE MANIFEST {n*255}/x | block | 0 error 2 ENOENT
+resolve IMAGE MANIFEST {n*254}\00 | block | 0 error 22 EINVAL
+resolve IMAGE MANIFEST {n*255}\00 | block | 0 error 36 ENAMETOOLONG
+";
+
+/// Paths through directories.
+const TREE_ROWS: &str = r"
+# through directories
+resolve IMAGE MANIFEST /sub | tree | 0 ok 129 dir
+resolve IMAGE MANIFEST /sub/f | tree | 0 ok 144 reg
+resolve IMAGE MANIFEST sub//deep/ | tree | 0 ok 131 dir
+resolve IMAGE MANIFEST /sub/deep/end | tree | 0 ok 144 reg
+resolve IMAGE MANIFEST /file | tree | 0 ok 144 reg
+resolve IMAGE MANIFEST /sub/end | tree | 0 error 2 ENOENT
+resolve IMAGE MANIFEST /deep | tree | 0 error 2 ENOENT
+resolve IMAGE MANIFEST /file/f | tree | 0 error 20 ENOTDIR
+resolve IMAGE MANIFEST /sub/.. | tree | 0 error 22 EINVAL
+resolve IMAGE MANIFEST /sub/deep/../f | tree | 0 error 22 EINVAL
+resolve IMAGE MANIFEST /sub/./f | tree | 0 error 22 EINVAL
+
+# entries that say of no directory that it is one: of a file, of an inode behind the image, and of one of zeros
+resolve IMAGE MANIFEST /odd | tree | 0 ok 145 dir
+resolve IMAGE MANIFEST /odd/f | tree | 0 error 20 ENOTDIR
+resolve IMAGE MANIFEST /odd/.. | tree | 0 error 20 ENOTDIR
+resolve IMAGE MANIFEST /gone/f | tree | 0 error 20 ENOTDIR
+resolve IMAGE MANIFEST /bad | tree | 0 ok 130 dir
+resolve IMAGE MANIFEST /bad/f | tree | 2 image rule 10 inode 130 block 0
+resolve IMAGE MANIFEST /bad/.. | tree | 2 image rule 10 inode 130 block 0
+
+# `sub` without an attribute fork
+resolve IMAGE MANIFEST /sub | tree inode:129 82=00 | 0 ok 129 dir
+resolve IMAGE MANIFEST /sub/.. | tree inode:129 82=00 | 2 image rule 11 inode 129 block 0
+# one byte of its form too few
+resolve IMAGE MANIFEST /sub/f | tree inode:129 63=1a | 2 image rule 16 inode 129 block 0
+resolve IMAGE MANIFEST /sub/.. | tree inode:129 63=1a | 0 error 22 EINVAL
+resolve IMAGE MANIFEST /file | tree inode:129 63=1a | 0 ok 144 reg
+# its form in no block
+resolve IMAGE MANIFEST /sub/f | tree inode:129 5=02 | 11 unbuilt
+resolve IMAGE MANIFEST /sub/.. | tree inode:129 5=02 | 0 error 22 EINVAL
+# no link
+resolve IMAGE MANIFEST /sub/f | tree inode:129 19=00 | 0 ok 144 reg
+# the root with a file's mode
+resolve IMAGE MANIFEST /sub | tree inode:128 2=80 | 0 error 20 ENOTDIR
+resolve IMAGE MANIFEST / | tree inode:128 2=80 | 0 ok 128 dir
+
+# the demonstration's image
+resolve IMAGE MANIFEST /caf\c3\a9/menu | demo | 0 ok 134 reg
+resolve IMAGE MANIFEST /file\20one | demo | 0 ok 132 reg
+resolve IMAGE MANIFEST /file\20one/menu | demo | 0 error 20 ENOTDIR
+resolve IMAGE MANIFEST /caf\c3\a9/.. | demo | 0 error 22 EINVAL
+";
+
+/// A root that is broken, or read by its hashes.
+const ROOT_ROWS: &str = r"
+# an entry of the root's block that names another place than its own
+resolve IMAGE MANIFEST /none | block data:40 118=0068 | 2 image rule 17 inode 128 block 40
+resolve IMAGE MANIFEST /.. | block data:40 118=0068 | 0 error 22 EINVAL
+resolve IMAGE MANIFEST / | block data:40 118=0068 | 0 ok 128 dir
+# a leaf entry that names no entry
+resolve IMAGE MANIFEST /entry-0011 | block data:40 4012=0000002d | 2 image rule 19 inode 128 block 0
+# two blocks in the root's extent
+resolve IMAGE MANIFEST /entry-0003 | block inode:128 191=02 | 11 unbuilt
+resolve IMAGE MANIFEST / | block inode:128 191=02 | 0 ok 128 dir
+
+# names of one hash, 0x30c1, in block form and in short form
+resolve IMAGE MANIFEST /aA | block:'aA','`'c1 | 0 ok 144 reg
+resolve IMAGE MANIFEST /`\c1 | block:'aA','`'c1 | 0 ok 145 reg
+resolve IMAGE MANIFEST /aA | short:0200_00000080_020060'aA'01_00000090_020070'`'c101_00000091 | 0 ok 144 reg
+resolve IMAGE MANIFEST /`\c1 | short:0200_00000080_020060'aA'01_00000090_020070'`'c101_00000091 | 0 ok 145 reg
+
+# a root that is broken: the version, the own number, the uuid
+resolve IMAGE MANIFEST /none | block inode:128 4=02 | 2 image rule 10 inode 128 block 0
+resolve IMAGE MANIFEST /none | block inode:128 159=81 | 2 image rule 10 inode 128 block 0
+resolve IMAGE MANIFEST /none | block inode:128 160=01 | 2 image rule 10 inode 128 block 0
+# the fork offset, the formats of the forks
+resolve IMAGE MANIFEST /none | block inode:128 82=2a | 2 image rule 11 inode 128 block 0
+resolve IMAGE MANIFEST /none | block inode:128 5=03 | 2 image rule 11 inode 128 block 0
+resolve IMAGE MANIFEST /none | block inode:128 83=03 | 2 image rule 11 inode 128 block 0
+# the flag of the extent; its block is 0, the first and the last of the log, the one behind the image; no block
+resolve IMAGE MANIFEST /none | block inode:128 176=80 | 2 image rule 13 inode 128 block 0
+resolve IMAGE MANIFEST /none | block inode:128 188=00000001 | 2 image rule 13 inode 128 block 0
+resolve IMAGE MANIFEST /none | block inode:128 188=08000001 | 2 image rule 13 inode 128 block 0
+resolve IMAGE MANIFEST /none | block inode:128 188=47e00001 | 2 image rule 13 inode 128 block 0
+resolve IMAGE MANIFEST /none | block inode:128 188=48000001 | 2 image rule 13 inode 128 block 0
+resolve IMAGE MANIFEST /none | block inode:128 188=05000000 | 2 image rule 13 inode 128 block 0
+# the size
+resolve IMAGE MANIFEST /none | block inode:128 62=20 | 2 image rule 15 inode 128 block 0
+resolve IMAGE MANIFEST /none | block inode:128 62=00 | 2 image rule 15 inode 128 block 0
+
+# a wrong checksum of the root's inode, and of its block
+resolve IMAGE MANIFEST /none | block raw:65628 0=ff | 2 image rule 10 inode 128 block 0
+resolve IMAGE MANIFEST /entry-0003 | block raw:0 65600='x' 164000='x' | 2 image rule 10 inode 128 block 0
+resolve IMAGE MANIFEST /none | block raw:163856 0=ff | 2 image rule 17 inode 128 block 40
+resolve IMAGE MANIFEST /none | block raw:164000 0='x' | 2 image rule 17 inode 128 block 40
+resolve IMAGE MANIFEST / | block raw:164000 0='x' | 0 ok 128 dir
+
+# a superblock that is refused
+resolve IMAGE MANIFEST /.. | none | 2 image rule 1 inode 0 block 0
+resolve IMAGE MANIFEST / | none | 2 image rule 1 inode 0 block 0
+";
 
 #[test]
-fn paths_in_a_root_in_block_form(rt: HostRuntime) -> Result<(), Fail> {
-    let alloc = rt.alloc();
-    let cases = [
-        ("/entry-0003", "ok 146 reg\n"),
-        ("//", "ok 128 dir\n"),
-        ("/none", NO_ENTRY),
-        ("/entry-0003/x", NO_DIRECTORY),
-        ("/", "ok 128 dir\n"),
-        ("entry-0003", "ok 146 reg\n"),
-        ("/entry-0003/", "ok 146 reg\n"),
-        ("//entry-0011//", "ok 154 reg\n"),
-        ("/entry-000", NO_ENTRY),
-    ];
-    for (path, wanted) in cases {
-        let (status, told) = resolve(alloc, block_image(alloc)?, path)?;
-        assert_eq!(rt; status, Status::Done, "{path}");
-        assert_eq!(rt; told.as_str(), wanted, "{path}");
-    }
-    Ok(())
-}
-
-#[test]
-fn parts_that_are_no_names(rt: HostRuntime) -> Result<(), Fail> {
-    let alloc = rt.alloc();
-    let cases = [
-        ("/.", NO_NAME),
-        ("/..", NO_NAME),
-        ("..", NO_NAME),
-        ("/../entry-0003", NO_NAME),
-        ("/./entry-0003", NO_NAME),
-        ("/a\\00", NO_NAME),
-        ("/entry-0003/..", NO_DIRECTORY),
-        ("/none/..", NO_ENTRY),
-        ("/...", NO_ENTRY),
-    ];
-    for (path, wanted) in cases {
-        let (status, told) = resolve(alloc, block_image(alloc)?, path)?;
-        assert_eq!(rt; status, Status::Done, "{path}");
-        assert_eq!(rt; told.as_str(), wanted, "{path}");
-    }
-    Ok(())
+fn parts_of_paths(rt: HostRuntime) -> Result<(), Fail> {
+    check_rows(&rt, "parts", PART_ROWS)
 }
 
 #[test]
 fn paths_through_directories(rt: HostRuntime) -> Result<(), Fail> {
-    let alloc = rt.alloc();
-    let cases = [
-        ("/sub", Status::Done, "ok 129 dir\n"),
-        ("/sub/f", Status::Done, "ok 144 reg\n"),
-        ("sub//deep/", Status::Done, "ok 131 dir\n"),
-        ("/sub/deep/end", Status::Done, "ok 144 reg\n"),
-        ("/file", Status::Done, "ok 144 reg\n"),
-        ("/sub/end", Status::Done, NO_ENTRY),
-        ("/deep", Status::Done, NO_ENTRY),
-        ("/file/f", Status::Done, NO_DIRECTORY),
-        ("/sub/..", Status::Done, NO_NAME),
-        ("/sub/deep/../f", Status::Done, NO_NAME),
-        ("/sub/./f", Status::Done, NO_NAME),
-        // An entry says that they are directories: a file's inode, one behind the image, and one of zeros.
-        ("/odd", Status::Done, "ok 145 dir\n"),
-        ("/odd/f", Status::Done, NO_DIRECTORY),
-        ("/odd/..", Status::Done, NO_DIRECTORY),
-        ("/gone/f", Status::Done, NO_DIRECTORY),
-        ("/bad", Status::Done, "ok 130 dir\n"),
-        ("/bad/f", Status::Image, "image rule 10 inode 130 block 0\n"),
-        (
-            "/bad/..",
-            Status::Image,
-            "image rule 10 inode 130 block 0\n",
-        ),
-    ];
-    for (path, status, wanted) in cases {
-        let (found, told) = resolve(alloc, tree(alloc)?, path)?;
-        assert_eq!(rt; found, status, "{path}");
-        assert_eq!(rt; told.as_str(), wanted, "{path}");
-    }
-    Ok(())
+    check_rows(&rt, "directories", TREE_ROWS)
 }
 
 #[test]
-fn changed_directories_on_the_way(rt: HostRuntime) -> Result<(), Fail> {
-    let alloc = rt.alloc();
-    // `sub` is inode 129, 512 bytes behind the root's: without an attribute fork, one byte of its form too few, in no block,
-    // without a link; and the root with a file's mode.
-    let fork: &[Change] = &[(512 + 82, &[0])];
-    let form: &[Change] = &[(512 + 63, &[26])];
-    let blocks: &[Change] = &[(512 + 5, &[2])];
-    let link: &[Change] = &[(512 + 19, &[0])];
-    let mode: &[Change] = &[(2, &[0x80])];
-    let cases = [
-        (fork, "/sub", Status::Done, "ok 129 dir\n"),
-        (
-            fork,
-            "/sub/..",
-            Status::Image,
-            "image rule 11 inode 129 block 0\n",
-        ),
-        (
-            form,
-            "/sub/f",
-            Status::Image,
-            "image rule 16 inode 129 block 0\n",
-        ),
-        (form, "/sub/..", Status::Done, NO_NAME),
-        (form, "/file", Status::Done, "ok 144 reg\n"),
-        (blocks, "/sub/f", Status::Unbuilt, "unbuilt\n"),
-        (blocks, "/sub/..", Status::Done, NO_NAME),
-        (link, "/sub/f", Status::Done, "ok 144 reg\n"),
-        (mode, "/sub", Status::Done, NO_DIRECTORY),
-        (mode, "/", Status::Done, "ok 128 dir\n"),
-    ];
-    for (changes, path, status, wanted) in cases {
-        let image = changed(tree(alloc)?, INODE_START, changes)?;
-        let (found, told) = resolve(alloc, image, path)?;
-        assert_eq!(rt; found, status, "{path}");
-        assert_eq!(rt; told.as_str(), wanted, "{path}");
-    }
-    Ok(())
-}
-
-#[test]
-fn a_root_in_blocks_that_is_broken_or_in_leaf_form(rt: HostRuntime) -> Result<(), Fail> {
-    let alloc = rt.alloc();
-    let place: &[Change] = &[(118, &[0, 0x68])];
-    let two: &[Change] = &[(191, &[2])];
-    let cases = [
-        (
-            DIRECTORY_START,
-            place,
-            "/none",
-            Status::Image,
-            "image rule 17 inode 128 block 40\n",
-        ),
-        (DIRECTORY_START, place, "/..", Status::Done, NO_NAME),
-        (DIRECTORY_START, place, "/", Status::Done, "ok 128 dir\n"),
-        (
-            INODE_START,
-            two,
-            "/entry-0003",
-            Status::Unbuilt,
-            "unbuilt\n",
-        ),
-        (INODE_START, two, "/", Status::Done, "ok 128 dir\n"),
-    ];
-    for (start, changes, path, status, wanted) in cases {
-        let image = changed(block_image(alloc)?, start, changes)?;
-        let (found, told) = resolve(alloc, image, path)?;
-        assert_eq!(rt; found, status, "{path}");
-        assert_eq!(rt; told.as_str(), wanted, "{path}");
-    }
-    Ok(())
-}
-
-/// A word of so many letters, and a tail.
-fn long_word(alloc: Global, letters: usize, tail: &str) -> Result<String, Fail> {
-    let mut word = String::new(alloc);
-    for _ in 0..letters {
-        word.push_str("n")?;
-    }
-    word.push_str(tail)?;
-    Ok(word)
-}
-
-#[test]
-fn long_parts(rt: HostRuntime) -> Result<(), Fail> {
-    let alloc = rt.alloc();
-    let cases = [
-        (255, "", NO_ENTRY),
-        (256, "", "error 36 ENAMETOOLONG\n"),
-        (255, "/x", NO_ENTRY),
-        // a byte 0 as the last of 255 and of 256 bytes
-        (254, "\\00", NO_NAME),
-        (255, "\\00", "error 36 ENAMETOOLONG\n"),
-    ];
-    for (letters, tail, wanted) in cases {
-        let word = long_word(alloc, letters, tail)?;
-        let (status, told) = resolve(alloc, block_image(alloc)?, word.as_str())?;
-        assert_eq!(rt; status, Status::Done);
-        assert_eq!(rt; told.as_str(), wanted, "{letters} letters and {tail}");
-    }
-    Ok(())
-}
-
-#[test]
-fn a_superblock_that_is_refused(rt: HostRuntime) -> Result<(), Fail> {
-    let alloc = rt.alloc();
-    let given = ["resolve", "IMAGE", "MANIFEST", "/.."];
-    let (status, told) = run(alloc, Vec::new(alloc), Vec::new(alloc), &given)?;
-    assert_eq!(rt; status, Status::Image);
-    assert_eq!(rt; told.as_str(), "image rule 1 inode 0 block 0\n");
-    Ok(())
+fn paths_from_broken_roots(rt: HostRuntime) -> Result<(), Fail> {
+    check_rows(&rt, "roots", ROOT_ROWS)
 }

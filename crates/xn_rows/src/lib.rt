@@ -1,0 +1,54 @@
+//! Tests as text. A table is one text, a line a row; a row says which words the program is given, over which image, and what
+//! it has to answer:
+//!
+//! ```text
+//! # an inode without an attribute fork
+//! list IMAGE MANIFEST 129 | tree inode:129 82=00 | 2 image rule 11 inode 129 block 0
+//! ```
+//!
+//! Blank lines, and those that begin with `#`, are none. The three fields are parted by `|`.
+//!
+//! **The words** are parted by spaces. In a word `{n*255}` is 255 times `n`, `{_}` is a space, and `{}` is nothing, so that
+//! `{}` alone is the empty word.
+//!
+//! **The image** is one that is made, and changes of it, all parted by spaces. Those that are made:
+//!
+//! | Word | Image |
+//! |---|---|
+//! | `none` | no sector at all |
+//! | `block` | the root, in block form, names the files 144 to 154; inode 129 is an empty directory without a link |
+//! | `block:BYTES,BYTES` | the same inodes, but the root names 144 and 145 so |
+//! | `short:BYTES` | the root is in short form, with these bytes in its data fork |
+//! | `tree`, `demo` | directories in short form, as [`images`] spells them |
+//!
+//! BYTES are hexadecimal digits, and between `'` text: `0100_'abc'_2f`. `_` is skipped. The changes, in order:
+//!
+//! | Word | Change |
+//! |---|---|
+//! | `dir:NUMBER:LINKS:BYTES` | puts the inode of a directory in short form with so many links, and these bytes in its data fork |
+//! | `file:NUMBER` | puts the inode of an empty regular file |
+//! | `super` | from here on places are those of the superblock |
+//! | `inode:NUMBER` | from here on places are those of this inode |
+//! | `data:BLOCK` | from here on places are those of this block, one of directory entries |
+//! | `raw:BYTE` | from here on places are counted from this byte of the image |
+//! | `PLACE=BYTES` | puts the bytes at a place; but for `raw` the checksum of what was changed is then right |
+//! | `sectors:COUNT` | cuts the image to so many sectors |
+//! | `fails:CALL` | nothing: the device's call of this number fails, counted from 1 |
+//!
+//! **The answer** is the exit status, and the lines that are told, parted by ` / `.
+#![tactic(auto)]
+
+mod fault;
+mod images;
+mod pieces;
+mod row;
+mod spelling;
+mod words;
+
+pub use fault::RowFault;
+pub use images::image;
+pub use row::Row;
+pub use spelling::bytes;
+
+#[cfg(test)]
+mod tests;

@@ -1,0 +1,95 @@
+//! Pieces of an image, to which changes go.
+
+ghost use Rattle.std.specs.Prelude.{◌≡◌, ◌+◌, ◌*◌, ◌≤◌, length, IfSome, OnOk, OnErr};
+ghost use Rattle.xn_bytes.specs.Numbers.{overlaid};
+
+use crate::RowFault;
+use xn_bytes::put_checksum;
+
+/// How many bytes a sector has, and an inode.
+pub const SECTOR: usize = 512;
+
+const BLOCK: usize = 4096;
+
+/// A piece of an image, from a byte on. In one with a checksum this stands at a place, and the piece has a length.
+#[derive(Clone, Copy, Debug)]
+pub struct Piece {
+    start: usize,
+    sum: Option<Checksum>,
+}
+
+/// Where in a piece of this length its checksum stands.
+#[derive(Clone, Copy, Debug)]
+struct Checksum {
+    length: usize,
+    at: usize,
+    ghost within: { at + 4 ≤ length },
+}
+
+impl Piece {
+    /// The whole image.
+    pub const IMAGE: Piece = Piece {
+        start: 0,
+        sum: None,
+    };
+
+    /// The piece that a word names.
+    pub fn read(word: &str) -> Result<Piece, RowFault> {
+        let (kind, number) = word.split_once(':').unwrap_or((word, "0"));
+        let number = number.parse::<u32>()? as usize;
+        match kind {
+            "super" => Ok(summed(SECTOR * number, SECTOR, 224)),
+            "inode" => Ok(summed(SECTOR * number, SECTOR, 100)),
+            "data" => Ok(summed(BLOCK * number, BLOCK, 4)),
+            "raw" => Ok(Piece {
+                start: number,
+                sum: None,
+            }),
+            _ => Err(RowFault::Word),
+        }
+    }
+
+    /// Puts bytes at a place of the piece, and its checksum.
+    pub fn put(self, image: &mut [u8], at: usize, bytes: &[u8]) -> Result<(), RowFault>
+        ensures { length image.new ≡ length image.old }
+    {
+        let place = self.start.checked_add(at).ok_or(RowFault::Place)?;
+        put(image, place, bytes)?;
+        match self.sum {
+            Some(sum) => put_sum(image, self.start, sum),
+            None => Ok(()),
+        }
+    }
+}
+
+fn summed(start: usize, length: usize, at: usize) -> Piece
+    requires { at + 4 ≤ length }
+{
+    Piece {
+        start,
+        sum: Some(Checksum { length, at }),
+    }
+}
+
+/// Puts bytes at a place of an image, if they end within it.
+pub fn put(image: &mut [u8], at: usize, bytes: &[u8]) -> Result<(), RowFault>
+    ensures value { OnOk result (image.new ≡ overlaid image.old at bytes.now) }
+    ensures kept { OnErr result (image.new ≡ image.old) }
+    ensures length { length image.new ≡ length image.old }
+{
+    if image.len() < bytes.len() || image.len() - bytes.len() < at {
+        return Err(RowFault::Place);
+    }
+    image[at..at + bytes.len()].copy_from_slice(bytes);
+    Ok(())
+}
+
+fn put_sum(image: &mut [u8], start: usize, sum: Checksum) -> Result<(), RowFault>
+    ensures { length image.new ≡ length image.old }
+{
+    if image.len() < sum.length || image.len() - sum.length < start {
+        return Err(RowFault::Place);
+    }
+    put_checksum(&mut image[start..start + sum.length], sum.at);
+    Ok(())
+}
