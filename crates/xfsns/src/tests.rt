@@ -11,7 +11,7 @@ use std::alloc::Global;
 use std::process::Abort;
 use std::test::Fail;
 use xn_machine::MemMachine;
-use xn_rows::{Row, RowFault};
+use xn_rows::Row;
 
 /// As many calls as an answer takes here, and more.
 const CALLS: u64 = 24;
@@ -25,25 +25,41 @@ struct Answer {
     told: String,
 }
 
-/// Runs the program as each row of a table says, and compares.
-fn check_rows<R: Abort + AllocGlobal>(rt: &R, table: &str, rows: &str) -> Result<(), Fail> {
-    for (number, line) in rows.lines().enumerate() {
-        if let Some(row) = Row::read(line)? {
-            let alloc = rt.alloc();
-            let wanted = wanted(alloc, &row)?;
-            let answer = run(alloc, &row)?;
-            assert_eq!(rt; answer, wanted, "{table}, line {number}: {line}");
-        }
-    }
-    Ok(())
+/// To what the words of a row are given.
+#[derive(Clone, Copy, Debug)]
+enum Asked {
+    Program,
+    /// The root directory, as a call of `Dir`.
+    Root,
 }
 
-/// The answer that a row wants.
-fn wanted(alloc: Global, row: &Row<'_>) -> Result<Answer, RowFault> {
-    Ok(Answer {
+/// Compares each row of a table with what is answered, and names the first that differs or is no row.
+fn check_rows<R: Abort + AllocGlobal>(rt: &R, asked: Asked, table: &str, rows: &str) {
+    for (number, line) in rows.lines().enumerate() {
+        match answers(rt.alloc(), asked, line) {
+            Ok(None) => {}
+            Ok(Some((answer, wanted))) => {
+                assert_eq!(rt; answer, wanted, "{table}, line {number}: {line}");
+            }
+            Err(_) => panic!(rt; "{table}, line {number} cannot be run: {line}"),
+        }
+    }
+}
+
+/// What is answered to the row that a line is, and what it wants.
+fn answers(alloc: Global, asked: Asked, line: &str) -> Result<Option<(Answer, Answer)>, Fail> {
+    let Some(row) = Row::read(line)? else {
+        return Ok(None);
+    };
+    let wanted = Answer {
         status: row.status()?,
         told: row.told(alloc)?,
-    })
+    };
+    let answer = match asked {
+        Asked::Program => run(alloc, &row)?,
+        Asked::Root => directories::ask_root(alloc, &row)?,
+    };
+    Ok(Some((answer, wanted)))
 }
 
 /// Makes the one call over a machine in memory.

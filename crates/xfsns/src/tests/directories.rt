@@ -7,7 +7,7 @@ ghost use Rattle.xn_inode.specs.Frames.{StoreStays};
 ghost use Rattle.xn_dir.specs.Inodes.{IsDirectory};
 ghost use Rattle.xn_replay.specs.Viewed.{IsSeen};
 
-use super::{Answer, wanted};
+use super::{Answer, Asked, check_rows};
 use std::alloc::Global;
 use std::test::Fail;
 use xn_bytes::{Kind, Name, escape, u16_at, unescape};
@@ -135,7 +135,7 @@ fn listing(alloc: Global, entries: &[Listed]) -> Result<String, Fail> {
 }
 
 /// The same over a row's image.
-fn call_of_row(alloc: Global, row: &Row<'_>) -> Result<Answer, Fail> {
+pub(super) fn ask_root(alloc: Global, row: &Row<'_>) -> Result<Answer, Fail> {
     let image = row.image(alloc)?;
     let mut machine = MemMachine::new(alloc, image, row.fails(alloc)?, None, CALLS, 0)?;
     let mut view = home_of(alloc, &mut machine)?;
@@ -151,16 +151,6 @@ fn call_of_row(alloc: Global, row: &Row<'_>) -> Result<Answer, Fail> {
 }
 
 #[test]
-fn calls_on_the_root(rt: HostRuntime) -> Result<(), Fail> {
-    for (number, line) in DIRECTORY_CALLS.lines().enumerate() {
-        if let Some(row) = Row::read(line)? {
-            let answer = call_of_row(rt.alloc(), &row)?;
-            assert_eq!(rt;
-                answer,
-                wanted(rt.alloc(), &row)?,
-                "calls, line {number}: {line}"
-            );
-        }
-    }
-    Ok(())
+fn calls_on_the_root(rt: HostRuntime) {
+    check_rows(&rt, Asked::Root, "calls", DIRECTORY_CALLS);
 }

@@ -1,7 +1,6 @@
 //! `list`: its replies and its refusals.
 
-use super::check_rows;
-use std::test::Fail;
+use super::{Asked, check_rows};
 
 /// A root in short form.
 const SHORT_ROWS: &str = r"
@@ -129,16 +128,16 @@ list IMAGE MANIFEST 128 | block inode:128 19=00 82=00 | 0 ok 11 / 144 reg entry-
 ";
 
 #[test]
-fn roots_in_short_form(rt: HostRuntime) -> Result<(), Fail> {
-    check_rows(&rt, "short form", SHORT_ROWS)
+fn roots_in_short_form(rt: HostRuntime) {
+    check_rows(&rt, Asked::Program, "short form", SHORT_ROWS);
 }
 
 #[test]
-fn roots_in_block_form(rt: HostRuntime) -> Result<(), Fail> {
-    check_rows(&rt, "block form", BLOCK_ROWS)
+fn roots_in_block_form(rt: HostRuntime) {
+    check_rows(&rt, Asked::Program, "block form", BLOCK_ROWS);
 }
 
 #[test]
-fn inodes_and_causes(rt: HostRuntime) -> Result<(), Fail> {
-    check_rows(&rt, "causes", CAUSE_ROWS)
+fn inodes_and_causes(rt: HostRuntime) {
+    check_rows(&rt, Asked::Program, "causes", CAUSE_ROWS);
 }

@@ -1,6 +1,6 @@
 //! Faults of the outside, and the call over a file.
 
-use super::check_rows;
+use super::{Asked, check_rows};
 use crate::files::{FileMachine, FileSource};
 use crate::xfsns;
 use std::alloc::Global;
@@ -28,8 +28,8 @@ resolve IMAGE MANIFEST / | block fails:2 | 6
 ";
 
 #[test]
-fn faults_are_answered_where_they_come(rt: HostRuntime) -> Result<(), Fail> {
-    check_rows(&rt, "outside", ROWS)
+fn faults_are_answered_where_they_come(rt: HostRuntime) {
+    check_rows(&rt, Asked::Program, "outside", ROWS);
 }
 
 /// `list one.img MANIFEST 128`, or `resolve one.img MANIFEST /a`.

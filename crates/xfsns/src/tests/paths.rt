@@ -1,7 +1,6 @@
 //! `resolve`: walks of paths, and where they end.
 
-use super::check_rows;
-use std::test::Fail;
+use super::{Asked, check_rows};
 
 /// Paths of one part or of none, in a root in block form.
 const PART_ROWS: &str = r"
@@ -134,16 +133,16 @@ resolve IMAGE MANIFEST / | none | 2 image rule 1 inode 0 block 0
 ";
 
 #[test]
-fn parts_of_paths(rt: HostRuntime) -> Result<(), Fail> {
-    check_rows(&rt, "parts", PART_ROWS)
+fn parts_of_paths(rt: HostRuntime) {
+    check_rows(&rt, Asked::Program, "parts", PART_ROWS);
 }
 
 #[test]
-fn paths_through_directories(rt: HostRuntime) -> Result<(), Fail> {
-    check_rows(&rt, "directories", TREE_ROWS)
+fn paths_through_directories(rt: HostRuntime) {
+    check_rows(&rt, Asked::Program, "directories", TREE_ROWS);
 }
 
 #[test]
-fn paths_from_broken_roots(rt: HostRuntime) -> Result<(), Fail> {
-    check_rows(&rt, "roots", ROOT_ROWS)
+fn paths_from_broken_roots(rt: HostRuntime) {
+    check_rows(&rt, Asked::Program, "roots", ROOT_ROWS);
 }

@@ -1,7 +1,6 @@
 //! Lines of words that are none of the forms.
 
-use super::check_rows;
-use std::test::Fail;
+use super::{Asked, check_rows};
 
 /// Without a sector the image breaks rule 1, which comes behind the words.
 const ROWS: &str = r"
@@ -44,6 +43,6 @@ resolve IMAGE MANIFEST a\zz | block | 1 usage
 ";
 
 #[test]
-fn are_refused_before_anything_is_read(rt: HostRuntime) -> Result<(), Fail> {
-    check_rows(&rt, "words", ROWS)
+fn are_refused_before_anything_is_read(rt: HostRuntime) {
+    check_rows(&rt, Asked::Program, "words", ROWS);
 }
