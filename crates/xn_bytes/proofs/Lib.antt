@@ -6,3 +6,4 @@ pub mod SuperblockLemmas
 pub mod EscapeLemmas
 pub mod NameOrder
 pub mod Overlays
+pub mod PlacedNumbers

@@ -13,6 +13,7 @@ pub mod DataBlock
 pub mod Blocks
 pub mod Directory
 pub mod HashedTree
+pub mod Trees
 pub mod DirectoryForms
 pub mod DirectoryRules
 pub mod Causes
