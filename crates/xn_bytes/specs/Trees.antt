@@ -131,11 +131,12 @@ abbrev pub IsAsked : List ℕ → Option (ℕ × ℕ) → Option Asked → Type 
 IsAsked bytes ends None = level_in bytes ≤ 4
 IsAsked bytes ends (Some asked) = (level_in bytes ≡ asked.level) × ((first : ℕ) × (ends ≡ Some (first, asked.hash)))
 
--- A block and its left neighbour name each other, and no hash falls between them. The first of a level names none.
+-- A block and its left neighbour name each other, and no hash falls between them. The first of a level names none; 0 is
+-- the name of no block.
 abbrev pub IsBeside : List ℕ → ℕ → Option (ℕ × ℕ) → Option Met → Type 0
 IsBeside bytes file_block ends None = left_in bytes ≡ 0
 IsBeside bytes file_block ends (Some left) =
-    (left_in bytes ≡ left.file_block) × (left.right ≡ file_block) × IfSome ends (λ hashes. left.last ≤ hashes.0)
+    (left_in bytes ≡ left.file_block) × (left.right ≡ file_block) × (left.right ≢ 0) × IfSome ends (λ hashes. left.last ≤ hashes.0)
 
 -- A block with these bytes stands, whatever stands before it: it is mapped, its own, holds what is asked for, and its
 -- children are mapped blocks of the tree.
