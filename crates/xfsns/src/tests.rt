@@ -1,6 +1,7 @@
 //! Tests of the program's one call, over machines in memory and over a file. Their tables are read as `xn_rows` says.
 
 mod directories;
+mod edge;
 mod lists;
 mod outside;
 mod paths;

@@ -7,3 +7,4 @@ pub mod EscapeLemmas
 pub mod NameOrder
 pub mod Overlays
 pub mod PlacedNumbers
+pub mod LeafEntries

@@ -141,10 +141,14 @@ pub record HasBestPairs (bytes : List ℕ) (gaps : List Gap) : Type 0 where
 
 -- ---- the leaf entries of block form
 
+-- the leaf entry at a place
+abbrev pub leaf_at : ℕ → List ℕ → LeafEntry
+leaf_at at bytes = record { hash = number_at 4 at bytes; address = number_at 4 (at + 4) bytes }
+
 -- so many leaf entries from a place on
 unfoldable pub leaves_at : ℕ → ℕ → List ℕ → List LeafEntry
 leaves_at zero at bytes = []
-leaves_at (suc count) at bytes = record { hash = number_at 4 at bytes; address = number_at 4 (at + 4) bytes } ∷ leaves_at count (at + 8) bytes
+leaves_at (suc count) at bytes = leaf_at at bytes ∷ leaves_at count (at + 8) bytes
 
 -- the leaf entries of a block, none where it isn't of block form
 abbrev pub leaves_of : List ℕ → List LeafEntry

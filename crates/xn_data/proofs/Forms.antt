@@ -10,7 +10,7 @@ use Rattle.xn_data.specs.declared.entry.DataEntry.{DataEntry}
 use Rattle.xn_data.specs.Viewed.{entry_of}
 use Rattle.xn_data.specs.Standing.{StandFrom}
 use Rattle.xn_data.proofs.Law.{is_placed, placed, placed_few, placed_in_block, stands}
-use Rattle.xn_data.proofs.Searching.{count_leaves}
+use Rattle.xn_bytes.proofs.LeafEntries.{count_leaves}
 use Rattle.xn_data.proofs.Standing.{one_entry}
 use Rattle.xn_data.proofs.Regions.{guard_none, first_none, regions_passed, regions_again}
 use Rattle.xn_data.proofs.Weighing.{named_by, fault_none}

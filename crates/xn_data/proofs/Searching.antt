@@ -7,6 +7,7 @@ use Rattle.std.proofs.lemmas.List.{append-nil}
 use Rattle.std.proofs.lemmas.List.Elements.{filter-append}
 use Rattle.xn_bytes.specs.Numbers.{number_at}
 use Rattle.xn_bytes.specs.DataBlock.{LeafEntry, leaves_at}
+use Rattle.xn_bytes.proofs.LeafEntries.{count_leaves, leaf_is, leaves_apart}
 use Rattle.xn_data.specs.Searching.{hash_at, Rise, Parts, Leads}
 
 -- ---- the binary search
@@ -44,27 +45,6 @@ found hash count at bytes low high so_far met rise =
     }
 
 -- ---- leaf entries by their index
-
-pub leaf_is : (count at k : ℕ) (bytes : List ℕ) (d : LeafEntry) → k < count → get_or (leaves_at count at bytes) k d ≡ record { hash = number_at 4 (at + 8 * k) bytes; address = number_at 4 (at + 8 * k + 4) bytes }
-unfolding leaves_at
-leaf_is zero at k bytes d h = absurd (omega arith)
-leaf_is (suc count) at zero bytes d h = let same : at + 8 * 0 ≡ at = omega arith in rw same refl
-leaf_is (suc count) at (suc k) bytes d h =
-    let same : at + 8 + 8 * k ≡ at + 8 * suc k = omega arith in
-    leaf_is count (at + 8) k bytes d (omega arith) ∙ rw same refl
-
-pub count_leaves : (count at : ℕ) (bytes : List ℕ) → length (leaves_at count at bytes) ≡ count
-unfolding leaves_at
-count_leaves zero at bytes = refl
-count_leaves (suc count) at bytes = ap suc (count_leaves count (at + 8) bytes)
-
-pub leaves_apart : (first rest at : ℕ) (bytes : List ℕ) → leaves_at (first + rest) at bytes ≡ leaves_at first at bytes ++ leaves_at rest (at + 8 * first) bytes
-unfolding leaves_at
-leaves_apart zero rest at bytes = let same : at + 8 * 0 ≡ at = omega arith in let none : 0 + rest ≡ rest = omega arith in rw (same, none) refl
-leaves_apart (suc first) rest at bytes =
-    let more : suc first + rest ≡ suc (first + rest) = omega arith in
-    let same : at + 8 + 8 * first ≡ at + 8 * suc first = omega arith in
-    rw (more, leaves_apart first rest (at + 8) bytes, same) refl
 
 pub rise_from : (count at : ℕ) (bytes : List ℕ) → IsNonDecreasingBy (λ leaf. leaf.hash) (leaves_at count at bytes) → Rise count at bytes
 rise_from count at bytes sorted i j h lt =

@@ -124,7 +124,7 @@ impl<'a> DataBlock<'a> {
     }
 
     /// How many leaf entries there are, stale ones counted; 0 where the block isn't of block form.
-    #[tactic(auto, using(crate::proofs::Searching::count_leaves), unfolding(xn_bytes::specs::DataBlock::data_in))]
+    #[tactic(auto, using(xn_bytes::proofs::LeafEntries::count_leaves), unfolding(xn_bytes::specs::DataBlock::data_in))]
     pub fn leaf_count(&self) -> usize
         ensures { result ≡ length self.now.leaves }
     {

@@ -1,0 +1,243 @@
+-- From the leaf that a descent has come to along its right siblings: what was found so far, and that nothing is left.
+use Rattle.std.proofs.Common.{◌≡◌, ◌≢◌, ℕ, zero, suc, ◌<◌, ◌≤◌, cond, Bool, List, [], ◌∷◌, ◌++◌, Option, Some, None, refl, sym, ap, subst, ◌∙◌, inl, inr, append_assoc, append-nil, arith}
+use Rattle.std.specs.Prelude.{All, IsSome, IfSome, ◌⊎◌, filter, ◌==◌}
+use Rattle.std.proofs.lemmas.Bool.Decides.{eqb_tells}
+use Rattle.std.proofs.lemmas.Grind.{flat_map-append}
+use Rattle.xn_bytes.specs.Trees.{Tree, Held, Met, Visit, Stands, Walks, IsTree, TreeHolds, IsBeside, entries_in, left_on, met_with, visits_below, bytes_at, level_in, left_in}
+use Rattle.xn_inode.specs.declared.store.Store.{Ghosts}
+use Rattle.xn_inode.specs.declared.fork_fault.ForkFault.{ForkFault}
+use Rattle.xn_inode.specs.declared.fork_fault.ForkFault.TheVariants.{Read, Memory, Broken, Unbuilt}
+use Rattle.xn_inode.specs.Frames.{StoreStays}
+use Rattle.xn_datree.specs.declared.fork.Fork.{Fork}
+use Rattle.xn_datree.specs.Forks.{IsTreeFault}
+use Rattle.xn_datree.specs.Finding.{ComesDown, IsNoLeaf}
+use Rattle.xn_datree.proofs.Trails.{level_is}
+use Rattle.xn_datree.proofs.Walking.{over_one, over_two}
+use Rattle.xn_datree.proofs.Passing.{LeafLaws}
+use Rattle.xn_datree.proofs.Descents.{held_once}
+use Rattle.xn_datree.proofs.Leaves.{later_high, next_leaf}
+
+-- ---- entries of one hash
+
+module _ {E : Type 0} (hash : E → ℕ) (limit : ℕ) where
+  -- those that have the hash
+  abbrev pub with_hash : List E → List E
+  with_hash es = filter (λ entry. hash entry == limit) es
+
+  pub with_hash-append : (es bs : List E) → with_hash (es ++ bs) ≡ with_hash es ++ with_hash bs
+  with_hash-append [] bs = refl
+  with_hash-append (a ∷ es) bs = elim (eqb_tells (hash a) limit) [
+    | inl same ↦
+        ap (λ (b : Bool). cond b (a ∷ with_hash (es ++ bs)) (with_hash (es ++ bs))) same.0
+        ∙ ap (λ (more : List E). a ∷ more) (with_hash-append es bs)
+        ∙ sym (ap (λ (b : Bool). cond b (a ∷ with_hash es) (with_hash es) ++ with_hash bs) same.0)
+    | inr differs ↦
+        ap (λ (b : Bool). cond b (a ∷ with_hash (es ++ bs)) (with_hash (es ++ bs))) differs.0
+        ∙ with_hash-append es bs
+        ∙ sym (ap (λ (b : Bool). cond b (a ∷ with_hash es) (with_hash es) ++ with_hash bs) differs.0)
+  ]
+
+  pub with_hash-none : (es : List E) → All (λ entry. hash entry ≢ limit) es → with_hash es ≡ []
+  with_hash-none [] all = refl
+  with_hash-none (e ∷ es) all = elim (eqb_tells (hash e) limit) [
+    | inl same ↦ absurd (all 0 e (omega arith) same.1)
+    | inr differs ↦
+        ap (λ (b : Bool). cond b (e ∷ with_hash es) (with_hash es)) differs.0
+        ∙ with_hash-none es (λ k d below. all (suc k) d (omega arith))
+  ]
+
+all_tail : (file_block : ℕ) (one : Met) (rest : List Met) → All (λ one. one.file_block ≢ file_block) (one ∷ rest) → All (λ one. one.file_block ≢ file_block) rest
+all_tail file_block one rest all = λ k d below. all (suc k) d (omega arith)
+
+all_cons : (file_block : ℕ) (one : Met) (rest : List Met) → one.file_block ≢ file_block → All (λ one. one.file_block ≢ file_block) rest → All (λ one. one.file_block ≢ file_block) (one ∷ rest)
+all_cons file_block one rest here there zero d below = here
+all_cons file_block one rest here there (suc k) d below = there k d (omega arith)
+
+-- the right sibling, of which nothing is asked but where it is
+abbrev pub right_of : Met → Visit
+right_of left = record { file_block = left.right; asked = None }
+
+module _ {E : Type 0} (tree : Tree E) (hash : E → ℕ) (limit : ℕ) where
+  -- The blocks that were passed have what was found; the last of them is a leaf; and each block of the trail was met.
+  pub record ChainAt (helds : List (Held E)) (found : List E) (trail : List Met) (left : Met) : Type 0 where
+    pub past : List (Held E)
+    pub others : List (Held E)
+    pub met : List Met
+    pub agenda : List Visit
+    pub split : helds ≡ past ++ others
+    pub goes : Walks tree others met agenda
+    pub last : left_on 0 met ≡ Some left
+    pub flat : left.level ≡ 0
+    pub asked : All (λ v. IsSome v.asked) agenda
+    pub found_are : found ≡ with_hash hash limit (entries_in past)
+    pub grown : (file_block : ℕ) → All (λ one. one.file_block ≢ file_block) met → All (λ one. one.file_block ≢ file_block) (left ∷ trail)
+
+  entries_one : (past : List (Held E)) (held : Held E) → entries_in (past ++ held ∷ []) ≡ entries_in past ++ held.entries
+  entries_one past held =
+      flat_map-append (λ (h : Held E). h.entries) past (held ∷ []) ∙ ap (λ (es : List E). entries_in past ++ es) (append-nil held.entries)
+
+  pub chain_first : (helds : List (Held E)) (bytes : List ℕ) (file_block : ℕ) (held : Held E) (visit : Visit) (found : List E) (left : Met)
+      → visit.file_block ≡ file_block → left ≡ met_with bytes visit held.ends → found ≡ with_hash hash limit held.entries
+      → ComesDown tree hash limit helds bytes file_block held → ChainAt helds found [] left
+  chain_first helds bytes file_block held visit found left at left_is found_are down =
+      let met = met_with bytes down.visit held.ends in
+      let same : met ≡ left = ap (λ (fb : ℕ). record { file_block = fb; level = met.level; right = met.right; last = met.last }) (down.place ∙ sym at) ∙ sym left_is in
+      record {
+        past = down.past ++ held ∷ [];
+        others = down.others;
+        met = met ∷ down.met;
+        agenda = down.agenda;
+        split = down.split ∙ sym (append_assoc down.past (held ∷ []) down.others);
+        goes = down.goes;
+        last = level_is 0 met down.met down.flat ∙ ap (λ (m : Met). Some m) same;
+        flat = ap (λ (m : Met). m.level) (sym same) ∙ down.flat;
+        asked = down.asked;
+        found_are =
+            found_are
+            ∙ ap (λ (es : List E). es ++ with_hash hash limit held.entries) (sym (with_hash-none hash limit (entries_in down.past) (λ k d below is. let low = down.lower k d below in omega arith)))
+            ∙ sym (with_hash-append hash limit (entries_in down.past) held.entries)
+            ∙ ap (with_hash hash limit) (sym (entries_one down.past held));
+        grown = λ fb all. subst (λ (m : Met). All (λ one. one.file_block ≢ fb) (m ∷ [])) same (all_cons fb met [] (all 0 met (omega arith)) (λ k d below. absurd (omega arith)));
+      }
+
+  -- Nothing of the hash is behind a leaf that has none on its right, or a greater hash.
+  pub chain_last : LeafLaws tree hash → (helds : List (Held E)) (found : List E) (trail : List Met) (left : Met) → (left.right ≡ 0) ⊎ (limit < left.last)
+      → ChainAt helds found trail left → found ≡ with_hash hash limit (entries_in helds)
+  chain_last laws helds found trail left done chain =
+      let rest = with_hash hash limit (entries_in chain.others) in
+      let nothing : rest ≡ [] = elim done [
+        | inl no_right ↦ elim (next_leaf tree hash laws chain.others chain.met chain.agenda left chain.asked chain.last chain.goes) [
+          | inl end ↦ ap (with_hash hash limit) end.1
+          | inr next ↦ absurd (next.leaf.is_named no_right)
+        ]
+        | inr greater ↦ with_hash-none hash limit (entries_in chain.others) (λ k d below is.
+            let high = later_high tree hash laws chain.others chain.met chain.agenda left chain.asked chain.last chain.goes k d below in
+            omega arith)
+      ] in
+      chain.found_are
+      ∙ sym (append-nil (with_hash hash limit (entries_in chain.past)))
+      ∙ ap (λ (es : List E). with_hash hash limit (entries_in chain.past) ++ es) (sym nothing)
+      ∙ sym (with_hash-append hash limit (entries_in chain.past) (entries_in chain.others))
+      ∙ ap (with_hash hash limit) (sym (flat_map-append (λ (h : Held E). h.entries) chain.past chain.others) ∙ ap entries_in (sym chain.split))
+
+  -- the leaf on the right stands behind the trail
+  pub record Continues (helds : List (Held E)) (found : List E) (trail : List Met) (left : Met) : Type 0 where
+    pub held : Held E
+    pub stands : Stands tree (left ∷ trail) (right_of left) held
+    pub flat : level_in (bytes_at tree left.right) ≡ 0
+    pub on : (found_now : List E) (now : Met) → found_now ≡ found ++ with_hash hash limit held.entries → now ≡ met_with (bytes_at tree left.right) (right_of left) held.ends
+        → ChainAt helds found_now (left ∷ trail) now
+
+  pub continues : LeafLaws tree hash → (helds : List (Held E)) (found : List E) (trail : List Met) (left : Met) → left.right ≢ 0 → ChainAt helds found trail left → Continues helds found trail left
+  continues laws helds found trail left some chain =
+      elim (next_leaf tree hash laws chain.others chain.met chain.agenda left chain.asked chain.last chain.goes) [
+        | inl end ↦ absurd (some end.0)
+        | inr next ↦
+            let at : next.visit.file_block ≡ left.right = sym next.leaf.right in
+            let low : level_in (bytes_at tree left.right) ≡ 0 = ap (λ (fb : ℕ). level_in (bytes_at tree fb)) (sym at) ∙ next.flat in
+            let on_left : left_on (level_in (bytes_at tree left.right)) (left ∷ trail) ≡ Some left = ap (λ (l : ℕ). left_on l (left ∷ trail)) low ∙ level_is 0 left trail chain.flat in
+            let alone = next.stands.alone in
+            let bytes = bytes_at tree next.visit.file_block in
+            let met = met_with bytes next.visit next.held.ends in
+            record {
+              held = next.held;
+              stands = record {
+                alone = rw next.leaf.right record {
+                  there = alone.there;
+                  own = alone.own;
+                  holds = alone.holds;
+                  asked = omega (arith, next.flat);
+                  children = alone.children;
+                };
+                new = chain.grown left.right (next.grown left.right (subst (λ (fb : ℕ). All (λ one. one.file_block ≢ fb) next.met) at next.stands.new));
+                beside = subst (IsBeside (bytes_at tree left.right) left.right next.held.ends) (sym on_left) (ap (λ (fb : ℕ). left_in (bytes_at tree fb)) (sym at) ∙ next.leaf.named, refl, some, rises next.held.ends left next.leaf.first next.leaf.greatest next.leaf.ends next.leaf.rises);
+              };
+              flat = low;
+              on = λ found_now now found_is now_is.
+                  let same : met ≡ now = ap (λ (fb : ℕ). met_with (bytes_at tree fb) (record { file_block = fb; asked = None }) next.held.ends) at ∙ sym now_is in
+                  record {
+                    past = (chain.past ++ next.nodes) ++ next.held ∷ [];
+                    others = next.others;
+                    met = met ∷ next.met;
+                    agenda = visits_below bytes next.held ++ next.agenda;
+                    split =
+                        chain.split ∙ ap (λ (hs : List (Held E)). chain.past ++ hs) next.split
+                        ∙ sym (append_assoc chain.past next.nodes (next.held ∷ next.others))
+                        ∙ sym (append_assoc (chain.past ++ next.nodes) (next.held ∷ []) next.others);
+                    goes = next.goes;
+                    last = level_is 0 met next.met next.flat ∙ ap (λ (m : Met). Some m) same;
+                    flat = ap (λ (m : Met). m.level) (sym same) ∙ next.flat;
+                    asked = next.asked;
+                    found_are =
+                        found_is
+                        ∙ ap (λ (es : List E). es ++ with_hash hash limit next.held.entries) (chain.found_are ∙ ap (with_hash hash limit) (
+                        sym (append-nil (entries_in chain.past)) ∙ ap (λ (es : List E). entries_in chain.past ++ es) (sym next.silent) ∙ sym (flat_map-append (λ (h : Held E). h.entries) chain.past next.nodes)))
+                        ∙ sym (with_hash-append hash limit (entries_in (chain.past ++ next.nodes)) next.held.entries)
+                        ∙ ap (with_hash hash limit) (sym (entries_one (chain.past ++ next.nodes) next.held));
+                    grown = λ fb all. subst (λ (m : Met). All (λ one. one.file_block ≢ fb) (m ∷ left ∷ trail)) same
+                        (all_cons fb met (left ∷ trail) (all 0 met (omega arith)) (chain.grown fb (next.grown fb (all_tail fb met next.met all))));
+                  };
+            }
+      ] where
+        rises : (ends : Option (ℕ × ℕ)) (left : Met) (first greatest : ℕ) → ends ≡ Some (first, greatest) → left.last ≤ first → IfSome ends (λ hashes. left.last ≤ hashes.0)
+        rises ends left first greatest is low = subst (λ (o : Option (ℕ × ℕ)). IfSome o (λ hashes. left.last ≤ hashes.0)) (sym is) low
+
+-- ---- over an image, where one is told
+
+-- however the tree's blocks hold it, the chain has come to this leaf
+abbrev pub ChainAll : {E : Type 0} → (List ℕ → Tree E) → (E → ℕ) → ℕ → List E → List Met → Met → List ℕ → Type 0
+ChainAll {E} T hash limit found trail left x = (helds : List (Held E)) → IsTree (T x) helds → ChainAt (T x) hash limit helds found trail left
+
+-- what is found, of whatever the tree holds
+abbrev pub FindsAll : {E : Type 0} → (List ℕ → Tree E) → (E → ℕ) → ℕ → List E → List ℕ → Type 0
+FindsAll {E} T hash limit found x = (entries : List E) → TreeHolds (T x) entries → found ≡ filter (λ entry. hash entry == limit) entries
+
+module _ {E : Type 0} (T : List ℕ → Tree E) (hash : E → ℕ) (laws : (x : List ℕ) → LeafLaws (T x) hash) (once : (x bytes : List ℕ) (a b : List E) → (T x).HoldsLeaf bytes a → (T x).HoldsLeaf bytes b → a ≡ b) (limit : ℕ) where
+  pub chain_over_first : (image : Option (List ℕ)) (bytes : List ℕ) (file_block : ℕ) (held : Held E) (visit : Visit) (found : List E) (left : Met)
+      → visit.file_block ≡ file_block → left ≡ met_with bytes visit held.ends → found ≡ filter (λ entry. hash entry == limit) held.entries
+      → IfSome image (λ x. (helds : List (Held E)) → IsTree (T x) helds → ComesDown (T x) hash limit helds bytes file_block held)
+      → IfSome image (ChainAll T hash limit found [] left)
+  chain_over_first image bytes file_block held visit found left at left_is found_are down =
+      over_one (λ x. (helds : List (Held E)) → IsTree (T x) helds → ComesDown (T x) hash limit helds bytes file_block held) (ChainAll T hash limit found [] left) image
+      (λ x d helds tree. chain_first (T x) hash limit helds bytes file_block held visit found left at left_is found_are (d helds tree)) down
+
+  pub chain_over_last : (image : Option (List ℕ)) (found : List E) (trail : List Met) (left : Met) → (left.right ≡ 0) ⊎ (limit < left.last)
+      → IfSome image (ChainAll T hash limit found trail left) → IfSome image (FindsAll T hash limit found)
+  chain_over_last image found trail left done chain =
+      over_one (ChainAll T hash limit found trail left) (FindsAll T hash limit found) image
+      (λ x c entries holds. chain_last (T x) hash limit (laws x) holds.0 found trail left done (c holds.0 holds.1) ∙ ap (filter (λ entry. hash entry == limit)) (sym holds.2)) chain
+
+  pub chain_over_on : (image : Option (List ℕ)) (found found_now : List E) (trail : List Met) (left now : Met) (held : Held E) (bytes : List ℕ) → left.right ≢ 0
+      → found_now ≡ found ++ filter (λ entry. hash entry == limit) held.entries → now ≡ met_with bytes (right_of left) held.ends
+      → IfSome image (λ x. bytes ≡ bytes_at (T x) left.right) → IfSome image (λ x. Stands (T x) (left ∷ trail) (right_of left) held)
+      → IfSome image (ChainAll T hash limit found trail left) → IfSome image (ChainAll T hash limit found_now (left ∷ trail) now)
+  chain_over_on image found found_now trail left now held bytes some found_are now_is are stands chain =
+      over_two (λ x. (bytes ≡ bytes_at (T x) left.right) × Stands (T x) (left ∷ trail) (right_of left) held) (ChainAll T hash limit found trail left) (ChainAll T hash limit found_now (left ∷ trail) now) image
+      (λ x read c helds tree.
+      let on = continues (T x) hash limit (laws x) helds found trail left some (c helds tree) in
+      let same : held ≡ on.held = held_once (T x).HoldsLeaf (T x).ends_of_leaf (once x) (bytes_at (T x) left.right) held on.held read.1.alone.holds on.stands.alone.holds in
+      on.on found_now now (found_are ∙ ap (λ (h : Held E). found ++ filter (λ entry. hash entry == limit) h.entries) same)
+      (now_is ∙ ap (λ (bs : List ℕ). met_with bs (right_of left) held.ends) read.0 ∙ ap (λ (h : Held E). met_with (bytes_at (T x) left.right) (right_of left) h.ends) same))
+      (over_two (λ x. bytes ≡ bytes_at (T x) left.right) (λ x. Stands (T x) (left ∷ trail) (right_of left) held) (λ x. (bytes ≡ bytes_at (T x) left.right) × Stands (T x) (left ∷ trail) (right_of left) held) image (λ x b s. (b, s)) are stands) chain
+
+-- the blocks are no tree
+abbrev pub NoTree : {E : Type 0} → (List ℕ → Tree E) → List ℕ → Type 0
+NoTree {E} T x = (helds : List (Held E)) → IsTree (T x) helds → ⊥
+
+module _ {E S : Type 0} (store : Ghosts S) (T : List ℕ → Tree E) (fork : Fork) (hash : E → ℕ) (laws : (x : List ℕ) → LeafLaws (T x) hash) (limit : ℕ) where
+  pub chain_fault : (found : List E) (trail : List Met) (left : Met) (old mid new : S) (fault : ForkFault) → left.right ≢ 0
+      → StoreStays store old mid
+      → IfSome (store.image old) (ChainAll T hash limit found trail left)
+      → IsTreeFault store (λ x _. IsNoLeaf (T x) (left ∷ trail) (right_of left)) fork mid new fault
+      → IsTreeFault store (λ x _. NoTree T x) fork old new fault
+  chain_fault found trail left old mid new Read some stays chain fails = let later = stays.faults_later in omega arith
+  chain_fault found trail left old mid new Memory some stays chain fails = tt
+  chain_fault found trail left old mid new (Broken rule block) some stays chain fails = (
+    fails.0,
+    over_two (λ x. IsNoLeaf (T x) (left ∷ trail) (right_of left)) (ChainAll T hash limit found trail left) (NoTree T) (store.image old)
+        (λ x f c helds tree.
+        let on = continues (T x) hash limit (laws x) helds found trail left some (c helds tree) in
+        f on.held on.flat on.stands)
+        (subst (λ (i : Option (List ℕ)). IfSome i (λ x. IsNoLeaf (T x) (left ∷ trail) (right_of left))) stays.image_stays fails.1) chain,
+  )
+  chain_fault found trail left old mid new Unbuilt some stays chain fails = absurd fails

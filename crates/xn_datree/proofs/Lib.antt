@@ -1,0 +1,10 @@
+pub mod Rising
+pub mod Children
+pub mod Trails
+pub mod Walking
+pub mod Measures
+pub mod Faults
+pub mod Passing
+pub mod Leaves
+pub mod Descents
+pub mod Chains

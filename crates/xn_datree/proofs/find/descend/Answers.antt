@@ -1,0 +1,82 @@
+use Rattle.std.proofs.Common.{◌≡◌, ℕ, List, sym, ap, ◌∙◌, rules}
+use Rattle.std.proofs.lemmas.Result.{err_from_is_err_and}
+use Rattle.xn_bytes.specs.Trees.{child_for, visit_to, level_in}
+use Rattle.xn_inode.proofs.Frames.{stays_at_first, stays_on}
+use Rattle.xn_datree.specs.Held.{held_of}
+use Rattle.xn_datree.specs.Forks.{tree_of}
+use Rattle.xn_datree.proofs.Descents.{alone_fault, first_over, down_over, leaf_over, taken_among}
+use Rattle.xn_datree.proofs.find.descend.Goals as goal
+
+pub returns-in_err-held-clause-fault : goal.returns-in_err-held-clause-fault
+returns-in_err-held-clause-fault g c =
+    let store = c.args.store.now in
+    let T = λ (x : List ℕ). tree_of g.L.Leaf.Holds g.L.Leaf.ends (g.S.Store.shape store) c.args.fork.now x in
+    let p = err_from_is_err_and c.from_residual.result c.from_residual.ensures.1 in
+    rw (p.1, p.2)
+    (alone_fault g.S.Store T c.args.fork.now g.L.Leaf.hash c.args.hash c.root_visit-visit.result store store c.read_alone.new.store c.in_err-held.field-0.0
+    (stays_at_first g.S.Store store c.requires.whole (g.met.S.Store.only_read_at_first store))
+    (first_over T g.L.Leaf.hash (λ x. record { within = g.met.L.Leaf.within_ends; sorted = g.met.L.Leaf.are_sorted }) (λ x. g.met.L.Leaf.holds_once) c.args.hash (g.S.Store.image store) c.root_visit-visit.result (λ x. sym c.root_visit-visit.ensures))
+    c.in_err-held.ensures.fault)
+
+pub loop-child-init : goal.loop-child-init
+loop-child-init g c =
+    let store = c.args.store.now in
+    let T = λ (x : List ℕ). tree_of g.L.Leaf.Holds g.L.Leaf.ends (g.S.Store.shape store) c.args.fork.now x in
+    record {
+      stays = c.in_ok-held.ensures.stays;
+      at = record {
+        alone = c.in_ok-held.ensures.alone;
+        is = c.in_ok-held.ensures.bytes;
+        leads = first_over T g.L.Leaf.hash (λ x. record { within = g.met.L.Leaf.within_ends; sorted = g.met.L.Leaf.are_sorted }) (λ x. g.met.L.Leaf.holds_once) c.args.hash (g.S.Store.image store) c.root_visit-visit.result (λ x. sym c.root_visit-visit.ensures);
+      };
+    }
+
+pub read_alone-requires-in-Some-clause-blocks : goal.read_alone-requires-in-Some-clause-blocks
+read_alone-requires-in-Some-clause-blocks g c = rw c.loop-child.invariant.stays.shape_stays c.requires.blocks
+
+pub returns-in_err-held-2-clause-fault : goal.returns-in_err-held-2-clause-fault
+returns-in_err-held-2-clause-fault g c =
+    let store = c.args.store.now in
+    let loop = c.loop-child.invariant in
+    let T = λ (x : List ℕ). tree_of g.L.Leaf.Holds g.L.Leaf.ends (g.S.Store.shape store) c.args.fork.now x in
+    let none = rw c.deref.ensures.value at c.child_to.ensures.none in
+    let some = rw c.deref.ensures.value at c.child_to.ensures.child in
+    let taken = taken_among c.loop-child.held.children.items c.child_to.result c.in-Some.child c.args.hash none.1 some c.in-Some.is in
+    let to : c.visit_to-visit.result ≡ visit_to (level_in c.loop-child.bytes) (child_for c.args.hash taken.0 taken.1) =
+    c.visit_to-visit.ensures ∙ ap (λ (l : ℕ). visit_to l c.in-Some.child) c.level_of.ensures ∙ ap (visit_to (level_in c.loop-child.bytes)) taken.3 in
+    let p = err_from_is_err_and c.from_residual-in_err-held-2.result c.from_residual-in_err-held-2.ensures.1 in
+    rw (p.1, p.2)
+    (alone_fault g.S.Store T c.args.fork.now g.L.Leaf.hash c.args.hash c.visit_to-visit.result store c.loop-child.store c.read_alone-in-Some.new.store c.in_err-held-2.field-0.0
+    loop.stays
+    (down_over T g.L.Leaf.hash (λ x. record { within = g.met.L.Leaf.within_ends; sorted = g.met.L.Leaf.are_sorted }) (λ x. g.met.L.Leaf.holds_once) c.args.hash (g.S.Store.image store) c.loop-child.visit (held_of c.loop-child.held) c.loop-child.bytes
+    taken.0 taken.1 c.visit_to-visit.result (λ x. loop.at.alone) taken.2 to loop.at.is loop.at.leads)
+    (rw loop.stays.shape_stays at c.in_err-held-2.ensures.fault))
+
+pub loop-child-preserved : goal.loop-child-preserved
+loop-child-preserved g c =
+    let store = c.args.store.now in
+    let loop = c.loop-child.invariant in
+    let T = λ (x : List ℕ). tree_of g.L.Leaf.Holds g.L.Leaf.ends (g.S.Store.shape store) c.args.fork.now x in
+    let none = rw c.deref.ensures.value at c.child_to.ensures.none in
+    let some = rw c.deref.ensures.value at c.child_to.ensures.child in
+    let taken = taken_among c.loop-child.held.children.items c.child_to.result c.in-Some.child c.args.hash none.1 some c.in-Some.is in
+    let to : c.visit_to-visit.result ≡ visit_to (level_in c.loop-child.bytes) (child_for c.args.hash taken.0 taken.1) =
+    c.visit_to-visit.ensures ∙ ap (λ (l : ℕ). visit_to l c.in-Some.child) c.level_of.ensures ∙ ap (visit_to (level_in c.loop-child.bytes)) taken.3 in
+    record {
+      stays = stays_on g.S.Store g.met.S.Store.only_read_on _ _ _ loop.stays c.in_ok-held-2.ensures.stays;
+      at = record {
+        alone = rw loop.stays.shape_stays at c.in_ok-held-2.ensures.alone;
+        is = rw (loop.stays.image_stays, loop.stays.shape_stays) at c.in_ok-held-2.ensures.bytes;
+        leads = down_over T g.L.Leaf.hash (λ x. record { within = g.met.L.Leaf.within_ends; sorted = g.met.L.Leaf.are_sorted }) (λ x. g.met.L.Leaf.holds_once) c.args.hash (g.S.Store.image store) c.loop-child.visit (held_of c.loop-child.held) c.loop-child.bytes
+            taken.0 taken.1 c.visit_to-visit.result (λ x. loop.at.alone) taken.2 to loop.at.is loop.at.leads;
+      };
+    }
+
+pub returns-clause-leaf : goal.returns-clause-leaf
+returns-clause-leaf g c =
+    let store = c.args.store.now in
+    let loop = c.loop-child.invariant in
+    let T = λ (x : List ℕ). tree_of g.L.Leaf.Holds g.L.Leaf.ends (g.S.Store.shape store) c.args.fork.now x in
+    let none = rw c.deref.ensures.value at c.child_to.ensures.none in
+    leaf_over T g.L.Leaf.hash (λ x. record { within = g.met.L.Leaf.within_ends; sorted = g.met.L.Leaf.are_sorted }) (λ x. g.met.L.Leaf.holds_once) c.args.hash (g.S.Store.image store) c.loop-child.visit (held_of c.loop-child.held) c.loop-child.bytes
+    (λ x. loop.at.alone) (none.0 (search rules)) loop.at.is loop.at.leads

@@ -1,0 +1,11 @@
+use Rattle.std.specs.Prelude.{IfSome}
+use Rattle.xn_inode.specs.Frames.{StoreStays}
+use Rattle.xn_datree.specs.Forks.{tree_of}
+use Rattle.xn_datree.proofs.Chains.{ChainAll}
+use Rattle.xn_datree.proofs.walk.Tree.find_all.Given as goal
+
+abbrev pub invariant-loop : goal.invariant-loop
+invariant-loop g l = record {
+  stays : StoreStays g.S.Store l.fn.store l.store;
+  chain : IfSome (g.S.Store.image l.fn.store) (ChainAll (λ x. tree_of g.L.Leaf.Holds g.L.Leaf.ends (g.S.Store.shape l.fn.store) l.fn.fork x) g.L.Leaf.hash l.hash l.found.items l.trail l.left);
+}

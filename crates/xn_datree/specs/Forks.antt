@@ -1,0 +1,34 @@
+-- The fork that a tree is read through, as the definition of trees sees it, and what its faults say.
+use Rattle.std.specs.Prelude.{◌≡◌, ℕ, List, Option, IfSome}
+use Rattle.xn_bytes.specs.Causes.{Rose}
+use Rattle.xn_bytes.specs.Superblock.{Geometry}
+use Rattle.xn_bytes.specs.Blocks.{block_of}
+use Rattle.xn_bytes.specs.Trees.{TreeFork, Tree, block_number, tree_rule}
+use Rattle.xn_inode.specs.declared.store.Store.{Ghosts}
+use Rattle.xn_inode.specs.declared.fork_fault.ForkFault.{ForkFault}
+use Rattle.xn_inode.specs.declared.fork_fault.ForkFault.TheVariants.{Read, Memory, Broken, Unbuilt}
+use Rattle.xn_datree.specs.declared.fork.Fork.{Fork}
+
+abbrev pub tree_fork : Geometry → Fork → TreeFork
+tree_fork g fork = record { geometry = g; owner = fork.owner; is_attribute = fork.attribute; runs = fork.extents; root = fork.root }
+
+-- the tree of a fork of an image, by what leaves hold
+abbrev pub tree_of : {E : Type 0} → (List ℕ → List E → Type 0) → (List ℕ → Option (ℕ × ℕ)) → Geometry → Fork → List ℕ → Tree E
+tree_of HoldsLeaf ends_of_leaf g fork image = record {
+  HoldsLeaf = HoldsLeaf;
+  ends_of_leaf = ends_of_leaf;
+  fork = tree_fork g fork;
+  blocks = block_of g image;
+}
+
+-- A tree was not read: reading failed, whose count rose; memory ran out; or the tree is broken as these blocks say over the
+-- image, by its rule.
+abbrev pub IsTreeFault : {S : Type 0} → Ghosts S → (List ℕ → ℕ → Type 0) → Fork → S → S → ForkFault → Type 0
+IsTreeFault store Breaks fork old new Read = Rose (store.faults old) (store.faults new)
+IsTreeFault store Breaks fork old new Memory = Unit {0}
+IsTreeFault store Breaks fork old new (Broken rule block) = (rule ≡ tree_rule fork.attribute) × IfSome (store.image old) (λ x. Breaks x block)
+IsTreeFault store Breaks fork old new Unbuilt = ⊥
+
+-- the same of one block, which the fault names
+abbrev pub IsVisitFault : {S : Type 0} → Ghosts S → (List ℕ → Type 0) → Fork → ℕ → S → S → ForkFault → Type 0
+IsVisitFault store Fails fork file_block old new = IsTreeFault store (λ x block. (block ≡ block_number (tree_fork (store.shape old) fork) file_block) × Fails x) fork old new
