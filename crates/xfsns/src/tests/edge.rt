@@ -8,8 +8,7 @@ use std::{fs, io};
 use xn_machine::{Machine, Source};
 
 /// A short form: parent 128, and the entry `a` to inode 131, a regular file.
-const FORM_OF_ONE: &[u8; 15] =
-    b"\x01\x00\x00\x00\x00\x80\x01\x00\x60a\x01\x00\x00\x00\x83";
+const FORM_OF_ONE: &[u8; 15] = b"\x01\x00\x00\x00\x00\x80\x01\x00\x60a\x01\x00\x00\x00\x83";
 
 /// A reader and a writer of one byte a call, to whom signals come before.
 #[derive(Drop)]
