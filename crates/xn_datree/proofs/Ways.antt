@@ -67,3 +67,12 @@ module _ {E : Type 0} (T : List ℕ → Tree E) (hash : E → ℕ) (laws : (x : 
       let mine = (level_of_leaf (T x) hash (laws x) bytes held (alone x).holds flat).0.holds in
       let here : (T x).HoldsLeaf bytes entries = subst (λ (bs : List ℕ). (T x).HoldsLeaf bs entries) (ap (bytes_at (T x)) (w leaf is) ∙ sym b) holds in
       subst (λ (es : List E). IsTrue fits ↔ (sum_by size es + more ≤ capacity)) (once x bytes held.entries entries mine here) tells) read way
+
+-- the root was read, with one fetch
+pub exact_over_first : {E : Type 0} (T : List ℕ → Tree E) (image : Option (List ℕ)) (bytes : List ℕ) (visit : Visit) (old new : ℕ) → ((x : List ℕ) → root_visit (T x).fork ≡ visit) → new ≤ old + 1
+    → IfSome image (λ x. bytes ≡ bytes_at (T x) visit.file_block) → IfSome image (λ x. new + level_in bytes ≤ old + levels_of_tree (T x))
+exact_over_first T image bytes visit old new is one read =
+    over_one (λ x. bytes ≡ bytes_at (T x) visit.file_block) (λ x. new + level_in bytes ≤ old + levels_of_tree (T x)) image
+    (λ x b.
+    let level : level_in (bytes_at (T x) (T x).fork.root) ≡ level_in bytes = ap (λ (v : Visit). level_in (bytes_at (T x) v.file_block)) (is x) ∙ ap level_in (sym b) in
+    omega (arith, level, one)) read

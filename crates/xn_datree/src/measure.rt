@@ -48,6 +48,7 @@ impl<L: Leaf> Tree<L> {
         ensures fault { IfErr result (IsTreeFault S.Store (λ x _. (helds : List (Holding L.Entry)) → ¬ IsTree (tree_of L.Holds L.ends (S.shape store.old) fork.now x) helds) fork.now store.old store.new) }
         ensures stays { StoreStays S.Store store.old store.new }
         ensures fetches { S.fetches store.new ≤ S.fetches store.old + 5 }
+        ensures path { IfOk result (λ _. IfSome (S.image store.old) (λ x. S.fetches store.new ≤ S.fetches store.old + levels_of_tree (tree_of L.Holds L.ends (S.shape store.old) fork.now x))) }
     {
         let mut bytes = [0; BLOCK_BYTES];
         let (_, held) = descend::<L, S>(alloc, store, fork, hash, &mut bytes)?;
