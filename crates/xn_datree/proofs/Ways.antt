@@ -1,12 +1,12 @@
 -- The one leaf to which a descent leads.
-use Rattle.std.proofs.Common.{◌≡◌, ℕ, zero, suc, ◌+◌, ◌-◌, ◌<◌, ◌≤◌, Bool, List, [], ◌∷◌, Option, Some, None, refl, sym, ap, subst, ◌∙◌, arith}
+use Rattle.std.proofs.Common.{◌≡◌, ℕ, suc, ◌+◌, ◌-◌, ◌≤◌, Bool, List, [], ◌∷◌, Option, Some, None, sym, ap, subst, ◌∙◌, arith}
 use Rattle.std.specs.Prelude.{IfSome, IsTrue, ◌↔◌, sum_by}
 use Rattle.xn_bytes.specs.HashedTree.{Child, children_at}
 use Rattle.xn_bytes.specs.Numbers.{number_at}
-use Rattle.xn_bytes.specs.Trees.{Tree, TreeFork, Held, Visit, Asked, StandsAlone, IsAsked, IsNode, DescendsTo, IsLeafFor, bytes_at, child_for, level_in, levels_of_tree, root_visit, visit_to}
+use Rattle.xn_bytes.specs.Trees.{Tree, TreeFork, Held, Visit, Asked, StandsAlone, IsAsked, DescendsTo, IsLeafFor, bytes_at, child_for, level_in, levels_of_tree, root_visit, visit_to}
 use Rattle.xn_datree.proofs.Measures.{level_of_node}
-use Rattle.xn_datree.proofs.Walking.{over_all, over_one, over_two}
-use Rattle.xn_datree.proofs.Descents.{node_with_children, flat_without}
+use Rattle.xn_datree.proofs.Walking.{over_one, over_two}
+use Rattle.xn_datree.proofs.Descents.{node_with_children}
 use Rattle.xn_datree.proofs.Passing.{LeafLaws, level_of_leaf}
 
 -- a leaf of the descent is one of the descent from here
