@@ -1,19 +1,22 @@
 -- From the leaf that a descent has come to along its right siblings: what was found so far, and that nothing is left.
-use Rattle.std.proofs.Common.{◌≡◌, ◌≢◌, ℕ, zero, suc, ◌<◌, ◌≤◌, cond, Bool, List, [], ◌∷◌, ◌++◌, Option, Some, None, refl, sym, ap, subst, ◌∙◌, inl, inr, append_assoc, append-nil, arith}
-use Rattle.std.specs.Prelude.{All, IsSome, IfSome, ◌⊎◌, filter, ◌==◌}
+use Rattle.std.proofs.Common.{◌≡◌, ◌≢◌, ℕ, zero, suc, ◌+◌, ◌<◌, ◌≤◌, cond, eq-eqb, true, length, Bool, List, [], ◌∷◌, ◌++◌, Option, Some, None, refl, sym, ap, subst, ◌∙◌, inl, inr, append_assoc, append-nil, arith}
+use Rattle.std.specs.Prelude.{All, IsSome, IfSome, ◌⊎◌, filter, sum_by, ◌==◌, ◌&&◌}
+use Rattle.std.proofs.lemmas.Bool.{cases_lt}
 use Rattle.std.proofs.lemmas.Bool.Decides.{eqb_tells}
 use Rattle.std.proofs.lemmas.Grind.{flat_map-append}
-use Rattle.xn_bytes.specs.Trees.{Tree, Held, Met, Visit, Stands, Walks, IsTree, TreeHolds, IsBeside, entries_in, left_on, met_with, visits_below, bytes_at, level_in, left_in}
+use Rattle.std.proofs.lemmas.List.Sums.{sum_by-cons, sum_by-append}
+use Rattle.xn_bytes.specs.HashedTree.{Child}
+use Rattle.xn_bytes.specs.Trees.{Tree, Held, Met, Visit, Stands, Walks, IsTree, TreeHolds, IsBeside, entries_in, left_on, met_with, visits_below, bytes_at, level_in, left_in, last_of}
 use Rattle.xn_inode.specs.declared.store.Store.{Ghosts}
 use Rattle.xn_inode.specs.declared.fork_fault.ForkFault.{ForkFault}
 use Rattle.xn_inode.specs.declared.fork_fault.ForkFault.TheVariants.{Read, Memory, Broken, Unbuilt}
 use Rattle.xn_inode.specs.Frames.{StoreStays}
 use Rattle.xn_datree.specs.declared.fork.Fork.{Fork}
 use Rattle.xn_datree.specs.Forks.{IsTreeFault}
-use Rattle.xn_datree.specs.Finding.{ComesDown, IsNoLeaf}
+use Rattle.xn_datree.specs.Finding.{ComesDown, IsNoLeaf, ends_at, has_none, leaves_to}
 use Rattle.xn_datree.proofs.Trails.{level_is}
 use Rattle.xn_datree.proofs.Walking.{over_one, over_two}
-use Rattle.xn_datree.proofs.Passing.{LeafLaws}
+use Rattle.xn_datree.proofs.Passing.{LeafLaws, level_of_leaf}
 use Rattle.xn_datree.proofs.Descents.{held_once}
 use Rattle.xn_datree.proofs.Leaves.{later_high, next_leaf}
 
@@ -46,6 +49,10 @@ module _ {E : Type 0} (hash : E → ℕ) (limit : ℕ) where
         ∙ with_hash-none es (λ k d below. all (suc k) d (omega arith))
   ]
 
+-- what is not below is not above
+pub not_above : (last limit : ℕ) → (limit < last → ⊥) → last ≤ limit
+not_above last limit not = elim (cases_lt limit last) [ inl below ↦ absurd (not below) | inr so ↦ omega (arith, so) ]
+
 all_tail : (file_block : ℕ) (one : Met) (rest : List Met) → All (λ one. one.file_block ≢ file_block) (one ∷ rest) → All (λ one. one.file_block ≢ file_block) rest
 all_tail file_block one rest all = λ k d below. all (suc k) d (omega arith)
 
@@ -71,17 +78,52 @@ module _ {E : Type 0} (tree : Tree E) (hash : E → ℕ) (limit : ℕ) where
     pub asked : All (λ v. IsSome v.asked) agenda
     pub found_are : found ≡ with_hash hash limit (entries_in past)
     pub grown : (file_block : ℕ) → All (λ one. one.file_block ≢ file_block) met → All (λ one. one.file_block ≢ file_block) (left ∷ trail)
+    pub counted : length trail ≤ leaves_to limit past
+    pub next_counted : left.right ≢ 0 → left.last ≡ limit → length trail + 1 ≤ leaves_to limit past
+    pub side : left.right ≢ 0 → limit ≤ left.last
+
+  leaves_one : (past : List (Held E)) (held : Held E) (first last : ℕ) → held.children ≡ [] → held.ends ≡ Some (first, last) → last ≡ limit → leaves_to limit (past ++ held ∷ []) ≡ leaves_to limit past + 1
+  leaves_one past held first last children ends same =
+      let test : Held E → ℕ = λ (h : Held E). cond (has_none h.children && ends_at limit h.ends) 1 0 in
+      let one : (has_none held.children && ends_at limit held.ends) ≡ true = ap (λ (cs : List Child). has_none cs && ends_at limit held.ends) children ∙ ap (ends_at limit) ends ∙ eq-eqb last limit same in
+      let single : sum_by test (held ∷ []) ≡ 1 = sum_by-cons test held [] ∙ ap (λ (b : Bool). cond b 1 0 + 0) one in
+      sum_by-append test past (held ∷ []) ∙ ap (λ (n : ℕ). leaves_to limit past + n) single
+
+  leaves_more : (past more : List (Held E)) → leaves_to limit past ≤ leaves_to limit (past ++ more)
+  leaves_more past more =
+      let both = sum_by-append (λ (h : Held E). cond (has_none h.children && ends_at limit h.ends) 1 0) past more in
+      omega (arith, both)
+
+  -- a leaf with one on its right reaches the hash
+  record Reaches (held : Held E) (left : Met) : Type 0 where
+    pub first : ℕ
+    pub ends : held.ends ≡ Some (first, left.last)
+    pub side : limit ≤ left.last
+
+  ends_here : (others : List (Held E)) (met : List Met) (agenda : List Visit) (left : Met) → agenda ≡ [] → left_on 0 met ≡ Some left → Walks tree others met agenda → left.right ≡ 0
+  ends_here [] met [] left none is walks = subst (λ (o : Option Met). IfSome o (λ one. one.right ≡ 0)) is (walks 0)
+  ends_here [] met (visit ∷ agenda) left none is walks = absurd walks
+  ends_here (held ∷ others) met [] left none is walks = absurd walks
+  ends_here (held ∷ others) met (visit ∷ agenda) left none is walks = absurd cc
 
   entries_one : (past : List (Held E)) (held : Held E) → entries_in (past ++ held ∷ []) ≡ entries_in past ++ held.entries
   entries_one past held =
       flat_map-append (λ (h : Held E). h.entries) past (held ∷ []) ∙ ap (λ (es : List E). entries_in past ++ es) (append-nil held.entries)
 
-  pub chain_first : (helds : List (Held E)) (bytes : List ℕ) (file_block : ℕ) (held : Held E) (visit : Visit) (found : List E) (left : Met)
+  pub chain_first : LeafLaws tree hash → (helds : List (Held E)) (bytes : List ℕ) (file_block : ℕ) (held : Held E) (visit : Visit) (found : List E) (left : Met)
       → visit.file_block ≡ file_block → left ≡ met_with bytes visit held.ends → found ≡ with_hash hash limit held.entries
       → ComesDown tree hash limit helds bytes file_block held → ChainAt helds found [] left
-  chain_first helds bytes file_block held visit found left at left_is found_are down =
+  chain_first laws helds bytes file_block held visit found left at left_is found_are down =
       let met = met_with bytes down.visit held.ends in
       let same : met ≡ left = ap (λ (fb : ℕ). record { file_block = fb; level = met.level; right = met.right; last = met.last }) (down.place ∙ sym at) ∙ sym left_is in
+      let last : left_on 0 (met ∷ down.met) ≡ Some left = level_is 0 met down.met down.flat ∙ ap (λ (m : Met). Some m) same in
+      let leaf = level_of_leaf tree hash laws (bytes_at tree down.visit.file_block) held down.stands.alone.holds (ap level_in (sym down.is) ∙ down.flat) in
+      let reaches : (left.right ≡ 0 → ⊥) → Reaches held left = λ some. elim down.side [
+        | inl there ↦
+            let is_last : there.1 ≡ left.last = ap last_of (sym there.2) ∙ ap (λ (m : Met). m.last) same in
+            record { first = there.0; ends = there.2 ∙ ap (λ (n : ℕ). Some (there.0, n)) is_last; side = subst (λ (n : ℕ). limit ≤ n) is_last there.3 }
+        | inr none ↦ absurd (some (ends_here down.others (met ∷ down.met) down.agenda left none last down.goes))
+      ] in
       record {
         past = down.past ++ held ∷ [];
         others = down.others;
@@ -89,7 +131,7 @@ module _ {E : Type 0} (tree : Tree E) (hash : E → ℕ) (limit : ℕ) where
         agenda = down.agenda;
         split = down.split ∙ sym (append_assoc down.past (held ∷ []) down.others);
         goes = down.goes;
-        last = level_is 0 met down.met down.flat ∙ ap (λ (m : Met). Some m) same;
+        last = last;
         flat = ap (λ (m : Met). m.level) (sym same) ∙ down.flat;
         asked = down.asked;
         found_are =
@@ -98,6 +140,9 @@ module _ {E : Type 0} (tree : Tree E) (hash : E → ℕ) (limit : ℕ) where
             ∙ sym (with_hash-append hash limit (entries_in down.past) held.entries)
             ∙ ap (with_hash hash limit) (sym (entries_one down.past held));
         grown = λ fb all. subst (λ (m : Met). All (λ one. one.file_block ≢ fb) (m ∷ [])) same (all_cons fb met [] (all 0 met (omega arith)) (λ k d below. absurd (omega arith)));
+        counted = omega arith;
+        next_counted = λ some same_hash. let one = reaches some in let counts = leaves_one down.past held one.first left.last leaf.1 one.ends same_hash in omega (arith, counts);
+        side = λ some. (reaches some).side;
       }
 
   -- Nothing of the hash is behind a leaf that has none on its right, or a greater hash.
@@ -120,6 +165,10 @@ module _ {E : Type 0} (tree : Tree E) (hash : E → ℕ) (limit : ℕ) where
       ∙ sym (with_hash-append hash limit (entries_in chain.past) (entries_in chain.others))
       ∙ ap (with_hash hash limit) (sym (flat_map-append (λ (h : Held E). h.entries) chain.past chain.others) ∙ ap entries_in (sym chain.split))
 
+  -- as many leaves were read behind the first as end with the hash, or less
+  pub chain_reads : (helds : List (Held E)) (found : List E) (trail : List Met) (left : Met) → ChainAt helds found trail left → length trail ≤ leaves_to limit helds
+  chain_reads helds found trail left chain = let more = leaves_more chain.past chain.others in rw chain.split (omega (arith, chain.counted, more))
+
   -- the leaf on the right stands behind the trail
   pub record Continues (helds : List (Held E)) (found : List E) (trail : List Met) (left : Met) : Type 0 where
     pub held : Held E
@@ -128,8 +177,8 @@ module _ {E : Type 0} (tree : Tree E) (hash : E → ℕ) (limit : ℕ) where
     pub on : (found_now : List E) (now : Met) → found_now ≡ found ++ with_hash hash limit held.entries → now ≡ met_with (bytes_at tree left.right) (right_of left) held.ends
         → ChainAt helds found_now (left ∷ trail) now
 
-  pub continues : LeafLaws tree hash → (helds : List (Held E)) (found : List E) (trail : List Met) (left : Met) → left.right ≢ 0 → ChainAt helds found trail left → Continues helds found trail left
-  continues laws helds found trail left some chain =
+  pub continues : LeafLaws tree hash → (helds : List (Held E)) (found : List E) (trail : List Met) (left : Met) → left.right ≢ 0 → left.last ≤ limit → ChainAt helds found trail left → Continues helds found trail left
+  continues laws helds found trail left some low_last chain =
       elim (next_leaf tree hash laws chain.others chain.met chain.agenda left chain.asked chain.last chain.goes) [
         | inl end ↦ absurd (some end.0)
         | inr next ↦
@@ -155,6 +204,8 @@ module _ {E : Type 0} (tree : Tree E) (hash : E → ℕ) (limit : ℕ) where
               flat = low;
               on = λ found_now now found_is now_is.
                   let same : met ≡ now = ap (λ (fb : ℕ). met_with (bytes_at tree fb) (record { file_block = fb; asked = None }) next.held.ends) at ∙ sym now_is in
+                  let is_last : next.leaf.greatest ≡ now.last = ap last_of (sym next.leaf.ends) ∙ ap (λ (m : Met). m.last) same in
+                  let so_far : length trail + 1 ≤ leaves_to limit chain.past = let reached = chain.side some in chain.next_counted some (omega (arith, reached, low_last)) in
                   record {
                     past = (chain.past ++ next.nodes) ++ next.held ∷ [];
                     others = next.others;
@@ -176,6 +227,12 @@ module _ {E : Type 0} (tree : Tree E) (hash : E → ℕ) (limit : ℕ) where
                         ∙ ap (with_hash hash limit) (sym (entries_one (chain.past ++ next.nodes) next.held));
                     grown = λ fb all. subst (λ (m : Met). All (λ one. one.file_block ≢ fb) (m ∷ left ∷ trail)) same
                         (all_cons fb met (left ∷ trail) (all 0 met (omega arith)) (chain.grown fb (next.grown fb (all_tail fb met next.met all))));
+                    counted = let more = leaves_more chain.past next.nodes in let more_too = leaves_more (chain.past ++ next.nodes) (next.held ∷ []) in omega (arith, so_far, more, more_too);
+                    next_counted = λ again same_hash.
+                        let more = leaves_more chain.past next.nodes in
+                        let counts = leaves_one (chain.past ++ next.nodes) next.held next.leaf.first now.last next.leaf.children (next.leaf.ends ∙ ap (λ (n : ℕ). Some (next.leaf.first, n)) is_last) same_hash in
+                        omega (arith, so_far, more, counts);
+                    side = λ again. let reached = chain.side some in subst (λ (n : ℕ). limit ≤ n) is_last (omega (arith, reached, next.leaf.rises, next.leaf.order));
                   };
             }
       ] where
@@ -199,7 +256,13 @@ module _ {E : Type 0} (T : List ℕ → Tree E) (hash : E → ℕ) (laws : (x : 
       → IfSome image (ChainAll T hash limit found [] left)
   chain_over_first image bytes file_block held visit found left at left_is found_are down =
       over_one (λ x. (helds : List (Held E)) → IsTree (T x) helds → ComesDown (T x) hash limit helds bytes file_block held) (ChainAll T hash limit found [] left) image
-      (λ x d helds tree. chain_first (T x) hash limit helds bytes file_block held visit found left at left_is found_are (d helds tree)) down
+      (λ x d helds tree. chain_first (T x) hash limit (laws x) helds bytes file_block held visit found left at left_is found_are (d helds tree)) down
+
+  pub reads_over_last : (image : Option (List ℕ)) (found : List E) (trail : List Met) (left : Met) → IfSome image (ChainAll T hash limit found trail left)
+      → IfSome image (λ x. (helds : List (Held E)) → IsTree (T x) helds → length trail ≤ leaves_to limit helds)
+  reads_over_last image found trail left chain =
+      over_one (ChainAll T hash limit found trail left) (λ x. (helds : List (Held E)) → IsTree (T x) helds → length trail ≤ leaves_to limit helds) image
+      (λ x c helds tree. chain_reads (T x) hash limit helds found trail left (c helds tree)) chain
 
   pub chain_over_last : (image : Option (List ℕ)) (found : List E) (trail : List Met) (left : Met) → (left.right ≡ 0) ⊎ (limit < left.last)
       → IfSome image (ChainAll T hash limit found trail left) → IfSome image (FindsAll T hash limit found)
@@ -207,14 +270,14 @@ module _ {E : Type 0} (T : List ℕ → Tree E) (hash : E → ℕ) (laws : (x : 
       over_one (ChainAll T hash limit found trail left) (FindsAll T hash limit found) image
       (λ x c entries holds. chain_last (T x) hash limit (laws x) holds.0 found trail left done (c holds.0 holds.1) ∙ ap (filter (λ entry. hash entry == limit)) (sym holds.2)) chain
 
-  pub chain_over_on : (image : Option (List ℕ)) (found found_now : List E) (trail : List Met) (left now : Met) (held : Held E) (bytes : List ℕ) → left.right ≢ 0
+  pub chain_over_on : (image : Option (List ℕ)) (found found_now : List E) (trail : List Met) (left now : Met) (held : Held E) (bytes : List ℕ) → left.right ≢ 0 → left.last ≤ limit
       → found_now ≡ found ++ filter (λ entry. hash entry == limit) held.entries → now ≡ met_with bytes (right_of left) held.ends
       → IfSome image (λ x. bytes ≡ bytes_at (T x) left.right) → IfSome image (λ x. Stands (T x) (left ∷ trail) (right_of left) held)
       → IfSome image (ChainAll T hash limit found trail left) → IfSome image (ChainAll T hash limit found_now (left ∷ trail) now)
-  chain_over_on image found found_now trail left now held bytes some found_are now_is are stands chain =
+  chain_over_on image found found_now trail left now held bytes some low_last found_are now_is are stands chain =
       over_two (λ x. (bytes ≡ bytes_at (T x) left.right) × Stands (T x) (left ∷ trail) (right_of left) held) (ChainAll T hash limit found trail left) (ChainAll T hash limit found_now (left ∷ trail) now) image
       (λ x read c helds tree.
-      let on = continues (T x) hash limit (laws x) helds found trail left some (c helds tree) in
+      let on = continues (T x) hash limit (laws x) helds found trail left some low_last (c helds tree) in
       let same : held ≡ on.held = held_once (T x).HoldsLeaf (T x).ends_of_leaf (once x) (bytes_at (T x) left.right) held on.held read.1.alone.holds on.stands.alone.holds in
       on.on found_now now (found_are ∙ ap (λ (h : Held E). found ++ filter (λ entry. hash entry == limit) h.entries) same)
       (now_is ∙ ap (λ (bs : List ℕ). met_with bs (right_of left) held.ends) read.0 ∙ ap (λ (h : Held E). met_with (bytes_at (T x) left.right) (right_of left) h.ends) same))
@@ -225,19 +288,19 @@ abbrev pub NoTree : {E : Type 0} → (List ℕ → Tree E) → List ℕ → Type
 NoTree {E} T x = (helds : List (Held E)) → IsTree (T x) helds → ⊥
 
 module _ {E S : Type 0} (store : Ghosts S) (T : List ℕ → Tree E) (fork : Fork) (hash : E → ℕ) (laws : (x : List ℕ) → LeafLaws (T x) hash) (limit : ℕ) where
-  pub chain_fault : (found : List E) (trail : List Met) (left : Met) (old mid new : S) (fault : ForkFault) → left.right ≢ 0
+  pub chain_fault : (found : List E) (trail : List Met) (left : Met) (old mid new : S) (fault : ForkFault) → left.right ≢ 0 → left.last ≤ limit
       → StoreStays store old mid
       → IfSome (store.image old) (ChainAll T hash limit found trail left)
       → IsTreeFault store (λ x _. IsNoLeaf (T x) (left ∷ trail) (right_of left)) fork mid new fault
       → IsTreeFault store (λ x _. NoTree T x) fork old new fault
-  chain_fault found trail left old mid new Read some stays chain fails = let later = stays.faults_later in omega arith
-  chain_fault found trail left old mid new Memory some stays chain fails = tt
-  chain_fault found trail left old mid new (Broken rule block) some stays chain fails = (
+  chain_fault found trail left old mid new Read some low_last stays chain fails = let later = stays.faults_later in omega arith
+  chain_fault found trail left old mid new Memory some low_last stays chain fails = tt
+  chain_fault found trail left old mid new (Broken rule block) some low_last stays chain fails = (
     fails.0,
     over_two (λ x. IsNoLeaf (T x) (left ∷ trail) (right_of left)) (ChainAll T hash limit found trail left) (NoTree T) (store.image old)
         (λ x f c helds tree.
-        let on = continues (T x) hash limit (laws x) helds found trail left some (c helds tree) in
+        let on = continues (T x) hash limit (laws x) helds found trail left some low_last (c helds tree) in
         f on.held on.flat on.stands)
         (subst (λ (i : Option (List ℕ)). IfSome i (λ x. IsNoLeaf (T x) (left ∷ trail) (right_of left))) stays.image_stays fails.1) chain,
   )
-  chain_fault found trail left old mid new Unbuilt some stays chain fails = absurd fails
+  chain_fault found trail left old mid new Unbuilt some low_last stays chain fails = absurd fails

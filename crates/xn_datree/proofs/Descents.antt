@@ -47,13 +47,13 @@ last_of_split (first ∷ before) after taken child [] are none = absurd (too_sho
 last_of_split (first ∷ before) after taken child (next ∷ others) are none =
     last_of_split before after taken next others (ap (λ (cs : List Child). elim cs as (λ _. List Child) [ [] ↦ [] | _ ∷ rest ↦ rest ]) are) none
 
-node_with_children : {E : Type 0} (H : List ℕ → List E → Type 0) (ends : List ℕ → Option (ℕ × ℕ)) (bytes : List ℕ) (held : Held E) (child : Child) (others : List Child) → HoldsBlock H ends bytes held → held.children ≡ child ∷ others → IsNode bytes held.children
+pub node_with_children : {E : Type 0} (H : List ℕ → List E → Type 0) (ends : List ℕ → Option (ℕ × ℕ)) (bytes : List ℕ) (held : Held E) (child : Child) (others : List Child) → HoldsBlock H ends bytes held → held.children ≡ child ∷ others → IsNode bytes held.children
 node_with_children H ends bytes held child others holds children = elim holds [
   | inl leaf ↦ absurd (let e : child ∷ others ≡ [] = sym children ∙ leaf.1 in cc)
   | inr node ↦ node.0
 ]
 
-flat_without : {E : Type 0} (H : List ℕ → List E → Type 0) (ends : List ℕ → Option (ℕ × ℕ)) (bytes : List ℕ) (held : Held E) → HoldsBlock H ends bytes held → held.children ≡ [] → level_in bytes ≡ 0
+pub flat_without : {E : Type 0} (H : List ℕ → List E → Type 0) (ends : List ℕ → Option (ℕ × ℕ)) (bytes : List ℕ) (held : Held E) → HoldsBlock H ends bytes held → held.children ≡ [] → level_in bytes ≡ 0
 flat_without H ends bytes held holds children = elim holds [
   | inl leaf ↦ level_of_other bytes leaf.0.no_node
   | inr node ↦ absurd (let none = ap length children in let some = node.0.some in omega arith)

@@ -8,3 +8,4 @@ pub mod Passing
 pub mod Leaves
 pub mod Descents
 pub mod Chains
+pub mod Ways

@@ -1,7 +1,8 @@
 -- A walk that has come to a moment, and what the moments behind it say of the whole tree.
-use Rattle.std.proofs.Common.{◌≡◌, ℕ, List, [], ◌∷◌, ◌++◌, Option, Some, None, refl, sym, ap, subst, ◌∙◌, append_assoc, append-nil}
+use Rattle.std.proofs.Common.{◌≡◌, ◌+◌, ◌≤◌, length, arith, ℕ, List, [], ◌∷◌, ◌++◌, Option, Some, None, refl, sym, ap, subst, ◌∙◌, append_assoc, append-nil}
 use Rattle.std.specs.Prelude.{IfSome}
 use Rattle.std.proofs.lemmas.Grind.{flat_map-append}
+use lib.ListN.{length-append}
 use Rattle.xn_bytes.specs.Trees.{Tree, Held, Met, Visit, Stands, Walks, WalksToFault, IsTree, TreeHolds, BreaksAt, AreEnds, IsOpenEnd, entries_in, root_visit, met_with, visits_below, bytes_at, block_number}
 
 -- The blocks that were read hold these things, with these entries; and however the walk goes on, it goes on so from the
@@ -9,6 +10,7 @@ use Rattle.xn_bytes.specs.Trees.{Tree, Held, Met, Visit, Stands, Walks, WalksToF
 pub record Led {E : Type 0} (tree : Tree E) (entries : List E) (met : List Met) (agenda : List Visit) : Type 0 where
   pub helds : List (Held E)
   pub entries_are : entries ≡ entries_in helds
+  pub as_many : length met ≡ length helds
   pub goes : (more : List (Held E)) → Walks tree more met agenda → IsTree tree (helds ++ more)
   pub breaks : (more : List (Held E)) (block : ℕ) → WalksToFault tree more met agenda block → WalksToFault tree (helds ++ more) [] (root_visit tree.fork ∷ []) block
 
@@ -16,6 +18,7 @@ pub led_first : {E : Type 0} (tree : Tree E) → Led tree [] [] (root_visit tree
 led_first tree = record {
   helds = [];
   entries_are = refl;
+  as_many = refl;
   goes = λ more walks. walks;
   breaks = λ more block walks. walks;
 }
@@ -30,6 +33,7 @@ led_on {E} tree entries met visit agenda held bytes is stands led =
           ap (λ (es : List E). es ++ held.entries) led.entries_are
           ∙ ap (λ (es : List E). entries_in led.helds ++ es) (sym (append-nil held.entries))
           ∙ sym (flat_map-append (λ (h : Held E). h.entries) led.helds (held ∷ []));
+      as_many = let longer = length-append led.helds (held ∷ []) in omega (arith, led.as_many, longer);
       goes = λ more walks. subst (IsTree tree) (sym (append_assoc led.helds (held ∷ []) more)) (led.goes (held ∷ more) (stands, walks));
       breaks = λ more block walks. subst (λ (hs : List (Held E)). WalksToFault tree hs [] (root_visit tree.fork ∷ []) block) (sym (append_assoc led.helds (held ∷ []) more)) (led.breaks (held ∷ more) block (stands, walks));
     } in
@@ -39,6 +43,11 @@ pub led_to_end : {E : Type 0} (tree : Tree E) (entries : List E) (met : List Met
 led_to_end {E} tree entries met ends led =
     let all = append-nil led.helds in
     (led.helds, subst (IsTree tree) all (led.goes [] ends), led.entries_are)
+
+pub led_to_reads : {E : Type 0} (tree : Tree E) (entries : List E) (met : List Met) (reads : ℕ) → AreEnds met → Led tree entries met [] → reads ≤ length met → (helds : List (Held E)) × IsTree tree helds × (reads ≤ length helds)
+led_to_reads {E} tree entries met reads ends led few =
+    let all = append-nil led.helds in
+    (led.helds, subst (IsTree tree) all (led.goes [] ends), omega (arith, few, led.as_many))
 
 pub led_to_fault : {E : Type 0} (tree : Tree E) (entries : List E) (met : List Met) (visit : Visit) (agenda : List Visit)
     → ((held : Held E) → Stands tree met visit held → ⊥) → Led tree entries met (visit ∷ agenda) → BreaksAt tree (block_number tree.fork visit.file_block)
@@ -88,6 +97,12 @@ module _ {E : Type 0} (T : List ℕ → Tree E) where
   led_over_end image entries met agenda a ends led =
       over_one (λ x. Led (T x) entries met agenda) (λ x. TreeHolds (T x) entries) image
       (λ x l. led_to_end (T x) entries met ends (subst (Led (T x) entries met) a l)) led
+
+  pub led_over_reads : (image : Option (List ℕ)) (entries : List E) (met : List Met) (agenda : List Visit) (old new : ℕ) → agenda ≡ [] → AreEnds met → new ≤ old + length met
+      → IfSome image (λ x. Led (T x) entries met agenda) → IfSome image (λ x. (helds : List (Held E)) × IsTree (T x) helds × (new ≤ old + length helds))
+  led_over_reads image entries met agenda old new a ends few led =
+      over_one (λ x. Led (T x) entries met agenda) (λ x. (helds : List (Held E)) × IsTree (T x) helds × (new ≤ old + length helds)) image
+      (λ x l. let read = led_to_reads (T x) entries met (length met) ends (subst (Led (T x) entries met) a l) (omega arith) in (read.0, read.1, omega (arith, few, read.2))) led
 
   pub led_over_fault : (image : Option (List ℕ)) (entries : List E) (met : List Met) (visit : Visit) (agenda whole : List Visit) (block : ℕ) → whole ≡ visit ∷ agenda
       → IfSome image (λ x. (block ≡ block_number (T x).fork visit.file_block) × ((held : Held E) → Stands (T x) met visit held → ⊥))

@@ -2,9 +2,9 @@
 
 ghost use Rattle.std.specs.Prelude.{◌≡◌, ◌↔◌, ◌++◌, ◌==◌, ◌⊎◌, ◌<◌, ◌≤◌, ◌+◌, ◌∷◌, [], ℕ, List, IsTrue, IfErr, IfOk, IfSome, OnOk, Option, Some, None, filter, length};
 ghost use Rattle.xn_bytes.specs.HashedTree.{Child as HeldChild};
-ghost use Rattle.xn_bytes.specs.Trees.{AreBlocks, Held as Holding, IsTree, Stands, StandsAlone, TreeHolds, bytes_at, child_for, level_in};
+ghost use Rattle.xn_bytes.specs.Trees.{AreBlocks, Held as Holding, IsLeafFor, IsTree, Stands, StandsAlone, TreeHolds, bytes_at, child_for, level_in, levels_of_tree};
 ghost use Rattle.xn_inode.specs.Frames.{StoreStays};
-ghost use Rattle.xn_datree.specs.Finding.{ComesDown, IsNoLeaf};
+ghost use Rattle.xn_datree.specs.Finding.{ComesDown, IsNoLeaf, leaves_to};
 ghost use Rattle.xn_datree.specs.Held.{held_of};
 ghost use Rattle.xn_datree.specs.Forks.{tree_fork, tree_of, IsTreeFault, IsVisitFault};
 
@@ -87,8 +87,8 @@ fn take_with_hash<L: Leaf>(
     Ok(())
 }
 
-/// Descends from the root to the leaf for a hash; its file block, and what it holds.
-fn descend<L: Leaf, S: Store>(
+/// Descends from the root to the leaf for a hash; its visit, and what it holds.
+pub(crate) fn descend<L: Leaf, S: Store>(
     alloc: Global,
     store: &mut S,
     fork: &Fork,
@@ -98,8 +98,14 @@ fn descend<L: Leaf, S: Store>(
     requires whole { S.IsWhole store.old }
     requires blocks { AreBlocks (S.shape store.old) fork.now.extents }
     ensures leaf { IfOk result (λ leaf. IfSome (S.image store.old) (λ x. (helds : List (Holding L.Entry)) → IsTree (tree_of L.Holds L.ends (S.shape store.old) fork.now x) helds → ComesDown (tree_of L.Holds L.ends (S.shape store.old) fork.now x) L.hash hash helds bytes.new leaf.0.file_block (held_of leaf.1))) }
+    ensures path { IfOk result (λ leaf. IfSome (S.image store.old) (λ x. (other : ℕ) → IsLeafFor (tree_of L.Holds L.ends (S.shape store.old) fork.now x) hash other → other ≡ leaf.0.file_block)) }
+    ensures flat { IfOk result (λ _. level_in bytes.new ≡ 0) }
+    ensures alone { IfOk result (λ leaf. StandsAlone L.Holds L.ends (tree_fork (S.shape store.old) fork.now) bytes.new leaf.0 (held_of leaf.1)) }
+    ensures bytes { IfOk result (λ leaf. IfSome (S.image store.old) (λ x. bytes.new ≡ bytes_at (tree_of L.Holds L.ends (S.shape store.old) fork.now x) leaf.0.file_block)) }
     ensures fault { IfErr result (IsTreeFault S.Store (λ x _. (helds : List (Holding L.Entry)) → ¬ IsTree (tree_of L.Holds L.ends (S.shape store.old) fork.now x) helds) fork.now store.old store.new) }
     ensures stays { StoreStays S.Store store.old store.new }
+    ensures fetches { S.fetches store.new ≤ S.fetches store.old + 5 }
+    ensures levels { IfOk result (λ _. IfSome (S.image store.old) (λ x. S.fetches store.new ≤ S.fetches store.old + levels_of_tree (tree_of L.Holds L.ends (S.shape store.old) fork.now x))) }
 {
     let mut visit = root_visit(fork);
     let mut held = read_alone::<L, S>(alloc, store, fork, visit, bytes)?;
@@ -112,7 +118,7 @@ fn descend<L: Leaf, S: Store>(
 
 impl<L: Leaf> Tree<L> {
     /// The entries with a hash, from left to right: those of the leaf to which the descent leads, and of its right siblings
-    /// until one is the last or has a greater hash. Broken comes only of a fork whose tree fails its rule; what lies beside
+    /// until one is the last or has a greater hash, a fetch each. Broken comes only of a fork whose tree fails its rule; what lies beside
     /// the way is not looked at.
     pub fn find_all<S: Store>(
         alloc: Global,
@@ -125,6 +131,7 @@ impl<L: Leaf> Tree<L> {
         ensures found { IfOk result (λ found. IfSome (S.image store.old) (λ x. (entries : List L.Entry) → TreeHolds (tree_of L.Holds L.ends (S.shape store.old) fork.now x) entries → found.items ≡ filter (λ entry. L.hash entry == hash) entries)) }
         ensures fault { IfErr result (IsTreeFault S.Store (λ x _. (helds : List (Holding L.Entry)) → ¬ IsTree (tree_of L.Holds L.ends (S.shape store.old) fork.now x) helds) fork.now store.old store.new) }
         ensures stays { StoreStays S.Store store.old store.new }
+        ensures fetches { IfOk result (λ _. IfSome (S.image store.old) (λ x. (helds : List (Holding L.Entry)) → IsTree (tree_of L.Holds L.ends (S.shape store.old) fork.now x) helds → S.fetches store.new ≤ S.fetches store.old + levels_of_tree (tree_of L.Holds L.ends (S.shape store.old) fork.now x) + leaves_to hash helds)) }
     {
         let mut bytes = [0; BLOCK_BYTES];
         let mut found = Vec::new(alloc);
@@ -179,6 +186,7 @@ fn read_leaf<L: Leaf, S: Store>(
     ensures bytes { IfOk result (λ _. IfSome (S.image store.old) (λ x. bytes.new ≡ bytes_at (tree_of L.Holds L.ends (S.shape store.old) fork.now x) visit.file_block)) }
     ensures fault { IfErr result (IsTreeFault S.Store (λ x _. IsNoLeaf (tree_of L.Holds L.ends (S.shape store.old) fork.now x) trail.now visit) fork.now store.old store.new) }
     ensures stays { StoreStays S.Store store.old store.new }
+    ensures fetches { S.fetches store.new ≤ S.fetches store.old + 1 }
 {
     let held = read_visit::<L, S>(alloc, store, fork, trail, visit, bytes)?;
     if level_of(bytes) == 0 {

@@ -7,6 +7,7 @@ mod fork;
 mod header;
 mod held;
 mod leaf;
+mod measure;
 mod node;
 mod read;
 mod trail;

@@ -1,7 +1,7 @@
 //! A whole tree, read from its root: each node before its children, and these from left to right.
 
-ghost use Rattle.std.specs.Prelude.{◌≡◌, ◌++◌, ◌≤◌, ◌∷◌, [], All, IfErr, IfOk, IfSome, OnOk, length, map};
-ghost use Rattle.xn_bytes.specs.Trees.{AreBlocks, BreaksAt, Held as Holding, TreeHolds, met_with, visit_to};
+ghost use Rattle.std.specs.Prelude.{◌≡◌, ◌++◌, ◌+◌, ◌≤◌, ◌∷◌, [], All, List, IfErr, IfOk, IfSome, OnOk, length, map};
+ghost use Rattle.xn_bytes.specs.Trees.{AreBlocks, BreaksAt, Held as Holding, IsTree, TreeHolds, met_with, visit_to};
 ghost use Rattle.xn_inode.specs.Frames.{StoreStays};
 ghost use Rattle.xn_datree.specs.Forks.{tree_of, IsTreeFault};
 
@@ -26,7 +26,7 @@ pub struct Tree<L: Leaf> {
 }
 
 impl<L: Leaf> Tree<L> {
-    /// All entries of the tree from left to right. Broken comes exactly where the tree fails its rule, with the first block
+    /// All entries of the tree from left to right, with one fetch for each of its blocks. Broken comes exactly where the tree fails its rule, with the first block
     /// that fails; the last block of a level is asked for its right sibling only where no block fails otherwise.
     pub fn walk<S: Store>(
         alloc: Global,
@@ -38,6 +38,7 @@ impl<L: Leaf> Tree<L> {
         ensures holds { IfOk result (λ entries. IfSome (S.image store.old) (λ x. TreeHolds (tree_of L.Holds L.ends (S.shape store.old) fork.now x) entries.items)) }
         ensures fault { IfErr result (IsTreeFault S.Store (λ x. BreaksAt (tree_of L.Holds L.ends (S.shape store.old) fork.now x)) fork.now store.old store.new) }
         ensures stays { StoreStays S.Store store.old store.new }
+        ensures fetches { IfOk result (λ _. IfSome (S.image store.old) (λ x. (helds : List (Holding L.Entry)) × IsTree (tree_of L.Holds L.ends (S.shape store.old) fork.now x) helds × (S.fetches store.new ≤ S.fetches store.old + length helds))) }
     {
         let mut trail = Trail::new(alloc);
         let mut agenda = VecDeque::new(alloc);

@@ -1,10 +1,12 @@
-use Rattle.std.proofs.Common.{◌≡◌, ℕ, List, sym, ap, ◌∙◌, rules}
+use Rattle.std.proofs.Common.{◌≡◌, ℕ, List, ◌+◌, ◌≤◌, sym, ap, ◌∙◌, arith, rules}
 use Rattle.std.proofs.lemmas.Result.{err_from_is_err_and}
-use Rattle.xn_bytes.specs.Trees.{child_for, visit_to, level_in}
+use Rattle.xn_bytes.specs.Trees.{Visit, child_for, visit_to, level_in, levels_of_tree}
 use Rattle.xn_inode.proofs.Frames.{stays_at_first, stays_on}
 use Rattle.xn_datree.specs.Held.{held_of}
-use Rattle.xn_datree.specs.Forks.{tree_of}
-use Rattle.xn_datree.proofs.Descents.{alone_fault, first_over, down_over, leaf_over, taken_among}
+use Rattle.xn_datree.specs.Forks.{tree_fork, tree_of}
+use Rattle.xn_datree.proofs.Descents.{alone_fault, first_over, down_over, leaf_over, level_falls, flat_without, taken_among}
+use Rattle.xn_datree.proofs.Walking.{over_one}
+use Rattle.xn_datree.proofs.Ways.{exact_over_first, root_low, way_over_first, way_over_on, way_over_last}
 use Rattle.xn_datree.proofs.find.descend.Goals as goal
 
 pub returns-in_err-held-clause-fault : goal.returns-in_err-held-clause-fault
@@ -29,6 +31,10 @@ loop-child-init g c =
         is = c.in_ok-held.ensures.bytes;
         leads = first_over T g.L.Leaf.hash (λ x. record { within = g.met.L.Leaf.within_ends; sorted = g.met.L.Leaf.are_sorted }) (λ x. g.met.L.Leaf.holds_once) c.args.hash (g.S.Store.image store) c.root_visit-visit.result (λ x. sym c.root_visit-visit.ensures);
       };
+      way = way_over_first T c.args.hash (g.S.Store.image store) c.read_alone.new.bytes c.root_visit-visit.result (λ x. sym c.root_visit-visit.ensures) c.in_ok-held.ensures.bytes;
+      few = let low = root_low g.L.Leaf.Holds g.L.Leaf.ends (tree_fork (g.S.Store.shape store) c.args.fork.now) c.read_alone.new.bytes c.root_visit-visit.result (held_of c.in_ok-held.held) (ap (λ (v : Visit). v.asked) c.root_visit-visit.ensures) c.in_ok-held.ensures.alone in
+          omega (arith, c.in_ok-held.ensures.fetches);
+      exact = exact_over_first T (g.S.Store.image store) c.read_alone.new.bytes c.root_visit-visit.result (g.S.Store.fetches store) (g.S.Store.fetches c.read_alone.new.store) (λ x. sym c.root_visit-visit.ensures) c.in_ok-held.ensures.fetches c.in_ok-held.ensures.bytes;
     }
 
 pub read_alone-requires-in-Some-clause-blocks : goal.read_alone-requires-in-Some-clause-blocks
@@ -70,6 +76,15 @@ loop-child-preserved g c =
         leads = down_over T g.L.Leaf.hash (λ x. record { within = g.met.L.Leaf.within_ends; sorted = g.met.L.Leaf.are_sorted }) (λ x. g.met.L.Leaf.holds_once) c.args.hash (g.S.Store.image store) c.loop-child.visit (held_of c.loop-child.held) c.loop-child.bytes
             taken.0 taken.1 c.visit_to-visit.result (λ x. loop.at.alone) taken.2 to loop.at.is loop.at.leads;
       };
+      way = way_over_on T c.args.hash (g.S.Store.image store) g.L.Leaf.Holds g.L.Leaf.ends (tree_fork (g.S.Store.shape store) c.args.fork.now) c.loop-child.bytes c.read_alone-in-Some.new.bytes c.loop-child.visit c.visit_to-visit.result (held_of c.loop-child.held) (held_of c.in_ok-held-2.held)
+          taken.0 taken.1 loop.at.alone taken.2 to (rw loop.stays.shape_stays at c.in_ok-held-2.ensures.alone) loop.at.is loop.way;
+      few = let less = level_falls g.L.Leaf.Holds g.L.Leaf.ends (tree_fork (g.S.Store.shape store) c.args.fork.now) c.loop-child.bytes c.read_alone-in-Some.new.bytes c.loop-child.visit c.visit_to-visit.result (held_of c.loop-child.held) (held_of c.in_ok-held-2.held)
+          taken.0 taken.1 c.args.hash loop.at.alone taken.2 to (rw loop.stays.shape_stays at c.in_ok-held-2.ensures.alone) in
+          omega (arith, c.in_ok-held-2.ensures.fetches, loop.few);
+      exact = let less = level_falls g.L.Leaf.Holds g.L.Leaf.ends (tree_fork (g.S.Store.shape store) c.args.fork.now) c.loop-child.bytes c.read_alone-in-Some.new.bytes c.loop-child.visit c.visit_to-visit.result (held_of c.loop-child.held) (held_of c.in_ok-held-2.held)
+          taken.0 taken.1 c.args.hash loop.at.alone taken.2 to (rw loop.stays.shape_stays at c.in_ok-held-2.ensures.alone) in
+          over_one (λ x. g.S.Store.fetches c.loop-child.store + level_in c.loop-child.bytes ≤ g.S.Store.fetches store + levels_of_tree (T x)) (λ x. g.S.Store.fetches c.read_alone-in-Some.new.store + level_in c.read_alone-in-Some.new.bytes ≤ g.S.Store.fetches store + levels_of_tree (T x)) (g.S.Store.image store)
+          (λ x so. omega (arith, so, less, c.in_ok-held-2.ensures.fetches)) loop.exact;
     }
 
 pub returns-clause-leaf : goal.returns-clause-leaf
@@ -80,3 +95,30 @@ returns-clause-leaf g c =
     let none = rw c.deref.ensures.value at c.child_to.ensures.none in
     leaf_over T g.L.Leaf.hash (λ x. record { within = g.met.L.Leaf.within_ends; sorted = g.met.L.Leaf.are_sorted }) (λ x. g.met.L.Leaf.holds_once) c.args.hash (g.S.Store.image store) c.loop-child.visit (held_of c.loop-child.held) c.loop-child.bytes
     (λ x. loop.at.alone) (none.0 (search rules)) loop.at.is loop.at.leads
+
+pub returns-clause-path : goal.returns-clause-path
+returns-clause-path g c =
+    let store = c.args.store.now in
+    let loop = c.loop-child.invariant in
+    let T = λ (x : List ℕ). tree_of g.L.Leaf.Holds g.L.Leaf.ends (g.S.Store.shape store) c.args.fork.now x in
+    let none = rw c.deref.ensures.value at c.child_to.ensures.none in
+    way_over_last T c.args.hash (g.S.Store.image store) c.loop-child.bytes c.loop-child.visit
+    (flat_without g.L.Leaf.Holds g.L.Leaf.ends c.loop-child.bytes (held_of c.loop-child.held) loop.at.alone.holds (none.0 (search rules))) loop.way
+
+pub returns-clause-flat : goal.returns-clause-flat
+returns-clause-flat g c =
+    let none = rw c.deref.ensures.value at c.child_to.ensures.none in
+    flat_without g.L.Leaf.Holds g.L.Leaf.ends c.loop-child.bytes (held_of c.loop-child.held) c.loop-child.invariant.at.alone.holds (none.0 (search rules))
+
+pub returns-clause-alone : goal.returns-clause-alone
+returns-clause-alone g c = c.loop-child.invariant.at.alone
+
+pub returns-clause-bytes : goal.returns-clause-bytes
+returns-clause-bytes g c = c.loop-child.invariant.at.is
+
+pub returns-clause-levels : goal.returns-clause-levels
+returns-clause-levels g c =
+    let store = c.args.store.now in
+    let T = λ (x : List ℕ). tree_of g.L.Leaf.Holds g.L.Leaf.ends (g.S.Store.shape store) c.args.fork.now x in
+    over_one (λ x. g.S.Store.fetches c.loop-child.store + level_in c.loop-child.bytes ≤ g.S.Store.fetches store + levels_of_tree (T x)) (λ x. g.S.Store.fetches c.loop-child.store ≤ g.S.Store.fetches store + levels_of_tree (T x)) (g.S.Store.image store)
+    (λ x so. omega (arith, so)) c.loop-child.invariant.exact
