@@ -1,20 +1,19 @@
--- What a directory of an image holds: one relation for its four forms, short, block, leaf and node. Entries are read from
--- the short form or from the data blocks alone; the hashes by which they are found stand beside them.
-use Rattle.std.specs.Prelude.{◌≡◌, ◌≢◌, ◌⊎◌, ℕ, ◌+◌, ◌*◌, ◌/◌, ◌<◌, ◌≤◌, Bool, true, false, not, ◌==◌, if◌then◌else◌, List, [], ◌∷◌, ◌++◌, length, map, filter, flat_map, count_by, All, Any, IsPermutation, Some, None, IsSome}
-use Rattle.std.specs.List.{AllAdjacentBelow}
+-- The forms of directories by their inodes, and what a directory in short or block form holds. Entries are read from the
+-- short form or from the data block alone; the hashes by which they are found stand beside them.
+use Rattle.std.specs.Prelude.{◌≡◌, ◌≢◌, ℕ, ◌+◌, ◌*◌, ◌/◌, ◌<◌, Bool, true, not, if◌then◌else◌, List, [], ◌∷◌, map, filter, count_by, All, IsPermutation, Some, None, IsSome}
 use Rattle.std.specs.List.Sorted.{IsNonDecreasingBy}
 use Rattle.xn_bytes.specs.declared.kind.Kind.TheVariants.{Dir}
 use Rattle.xn_bytes.specs.Numbers.{number_at}
 use Rattle.xn_bytes.specs.Hashes.{name_hash_of}
 use Rattle.xn_bytes.specs.Superblock.{Geometry, sector_of_block}
-use Rattle.xn_bytes.specs.Blocks.{block_of, IsHome}
-use Rattle.xn_bytes.specs.Inode.{inode_of, data_fork_of, attr_fork_of, local_format, extents_format, has_large_counts}
+use Rattle.xn_bytes.specs.Blocks.{IsHome}
+use Rattle.xn_bytes.specs.Inode.{data_fork_of, attr_fork_of, local_format, extents_format, has_large_counts}
 use Rattle.xn_bytes.specs.Extents.{Run, AreRecords, runs_in, mapped}
 use Rattle.xn_bytes.specs.Entries.{Entry}
 use Rattle.xn_bytes.specs.ShortDirectory.{ShortForm, ShortHolds}
-use Rattle.xn_bytes.specs.DataBlock.{DataForm, DataHolds, LeafEntry, entries_among, gaps_among, greatest}
+use Rattle.xn_bytes.specs.DataBlock.{DataForm, DataHolds, LeafEntry, entries_among}
 use Rattle.xn_bytes.specs.Directory.{HasShortSize, short_bytes_of}
-use Rattle.xn_bytes.specs.HashedTree.{TreeReader, LeafHolds, HasSiblings, IsTree, single_leaf_magic, leaf_file_block, HasBests, HasBest, AreFreeIndexes}
+use Rattle.xn_bytes.specs.HashedTree.{leaf_file_block, is_stale}
 
 -- ---- the blocks of a fork
 
@@ -99,9 +98,6 @@ pub record HasDots (all others : List Entry) (dotdot : ℕ) : Type 0 where
 abbrev pub leaf_of : Entry → LeafEntry
 leaf_of entry = record { hash = name_hash_of entry.name; address = entry.position / 8 }
 
-abbrev pub is_stale : LeafEntry → Bool
-is_stale leaf = leaf.address == 0
-
 -- leaf entries in the order of their hashes, stale ones too: none has a greater hash than one behind it
 abbrev pub AreSorted : List LeafEntry → Type 0
 AreSorted leaves = IsNonDecreasingBy (λ leaf. leaf.hash) leaves
@@ -141,103 +137,3 @@ pub record HoldsBlock (g : Geometry) (dir : ℕ) (inode : List ℕ) (blocks : �
   pub first : HoldsFirst g dir block (blocks block) form entries dotdot
   pub tail : HasTail form
   pub index : IsIndexOf form.leaves (entries_among form.regions)
-
--- ---- leaf and node form
-
--- a data block by its number in the file, and what it holds
-pub record Placed : Type 0 where
-  pub file_block : ℕ
-  pub form : DataForm
-
-abbrev pub IsPlaced : Geometry → ℕ → List Run → (ℕ → List ℕ) → Placed → Type 0
-IsPlaced g dir runs blocks placed = (block : ℕ) × (mapped runs placed.file_block ≡ Some block) × IsDataBlockOf g dir false block (blocks block) placed.form
-
--- all the data blocks that are mapped, in rising order
-pub record AreData (g : Geometry) (dir : ℕ) (runs : List Run) (blocks : ℕ → List ℕ) (data_blocks : List Placed) : Type 0 where
-  pub each : All (IsPlaced g dir runs blocks) data_blocks
-  pub numbers : All (λ placed. IsDataNumber placed.file_block) data_blocks
-  pub rising : AllAdjacentBelow (λ a b. a.file_block < b.file_block) data_blocks (length data_blocks)
-  pub complete : (file_block : ℕ) → IsDataNumber file_block → IsSome (mapped runs file_block) → Any (λ placed. placed.file_block ≡ file_block) data_blocks
-
--- an entry of a data block, by its position in the directory's data
-abbrev pub placed_in : ℕ → Entry → Entry
-placed_in file_block entry = record entry { position = 4096 * file_block + entry.position }
-
--- the entries of a data block, by their positions in the directory's data
-abbrev pub entries_placed : Placed → List Entry
-entries_placed placed = map (placed_in placed.file_block) (entries_among placed.form.regions)
-
--- the best of a data block: the length of its greatest free region
-abbrev pub best_of : Placed → ℕ
-best_of placed = greatest (gaps_among placed.form.regions)
-
--- The leaf entries of leaf form stand in one leaf without siblings, and behind them the bests of all data blocks.
-pub record HasSingleLeaf (reader : TreeReader) (data_blocks : List Placed) (leaves : List LeafEntry) : Type 0 where
-  pub leaf_form : IsLeafForm reader.runs
-  pub block : ℕ
-  pub at : mapped reader.runs leaf_file_block ≡ Some block
-  pub leaf : LeafHolds reader.geometry reader.owner block single_leaf_magic (reader.blocks block) leaves
-  pub alone : HasSiblings (reader.blocks block) 0 0
-  pub greatest_data : ℕ
-  pub is_greatest : IsGreatestData reader.runs greatest_data
-  pub apart : 64 + 8 * length leaves + 2 * (greatest_data + 1) + 4 ≤ 4096
-  pub bests : HasBests (map (λ placed. (placed.file_block, best_of placed)) data_blocks) (greatest_data + 1) (reader.blocks block)
-
--- Those of node form stand in the leaves of a tree, and the bests in free-index blocks.
-pub record HasTree (reader : TreeReader) (data_blocks : List Placed) (leaves : List LeafEntry) : Type 0 where
-  pub no_leaf_form : ¬ IsLeafForm reader.runs
-  pub tree : IsTree reader leaves
-  pub bests : All (λ placed. HasBest reader placed.file_block (best_of placed)) data_blocks
-  pub indexes : AreFreeIndexes reader
-
-pub record HoldsBlocks (g : Geometry) (dir : ℕ) (inode : List ℕ) (blocks : ℕ → List ℕ) (entries : List Entry) (dotdot : ℕ) : Type 0 where
-  pub is_extents : number_at 1 5 inode ≡ extents_format
-  pub not_alone : (block : ℕ) → ¬ IsBlockForm (data_runs_of inode) block
-  pub size : HasBlocksSize inode
-  pub first : DataForm
-  pub others : List Placed
-  pub data_blocks : AreData g dir (data_runs_of inode) blocks (record { file_block = 0; form = first } ∷ others)
-  pub front : List Entry
-  pub dots : HasDots (entries_among first.regions) front dotdot
-  pub entries_are : entries ≡ front ++ flat_map entries_placed others
-  pub leaves : List LeafEntry
-  pub sorted : AreSorted leaves
-  pub index : IsIndexOf leaves (entries_among first.regions ++ flat_map entries_placed others)
-  pub tree :
-      HasSingleLeaf (record { geometry = g; owner = dir; runs = data_runs_of inode; blocks = blocks }) (record { file_block = 0; form = first } ∷ others) leaves
-      ⊎ HasTree (record { geometry = g; owner = dir; runs = data_runs_of inode; blocks = blocks }) (record { file_block = 0; form = first } ∷ others) leaves
-
--- ---- the relation
-
--- The directory with these inode bytes and blocks holds the entries, without dot and dotdot, in rising position, and this
--- dotdot.
-abbrev pub Holds : Geometry → ℕ → List ℕ → (ℕ → List ℕ) → List Entry → ℕ → Type 0
-Holds g dir inode blocks entries dotdot =
-    HoldsShort inode entries dotdot
-    ⊎ (HoldsBlock g dir inode blocks entries dotdot ⊎ HoldsBlocks g dir inode blocks entries dotdot)
-
--- a directory of an image holds entries and a dotdot
-abbrev pub DirHolds : Geometry → List ℕ → ℕ → List Entry → ℕ → Type 0
-DirHolds g image dir entries dotdot = Holds g dir (inode_of g image dir) (block_of g image) entries dotdot
-
--- ---- what stands in a directory, whatever its leaf entries say
-
--- The entries that stand in the short form, or in the one block of block form, behind dot and dotdot.
-abbrev pub StandIn : Geometry → ℕ → List ℕ → (ℕ → List ℕ) → List Entry → ℕ → Type 0
-StandIn g dir inode blocks entries dotdot =
-    HoldsShort inode entries dotdot
-    ⊎ ((block : ℕ) × (form : DataForm) × (number_at 1 5 inode ≡ extents_format) × IsBlockForm (data_runs_of inode) block
-    × HasBlocksSize inode × HoldsFirst g dir block (blocks block) form entries dotdot)
-
--- In block form the leaf entries are sorted, and they are those of the entries.
-abbrev pub HasIndex : List ℕ → (ℕ → List ℕ) → Type 0
-HasIndex inode blocks =
-    (block : ℕ) (form : DataForm) → number_at 1 5 inode ≡ extents_format → IsBlockForm (data_runs_of inode) block → DataHolds (blocks block) form
-    → AreSorted form.leaves × IsIndexOf form.leaves (entries_among form.regions)
-
--- the same over an image
-abbrev pub EntriesStand : Geometry → List ℕ → ℕ → List Entry → ℕ → Type 0
-EntriesStand g image dir entries dotdot = StandIn g dir (inode_of g image dir) (block_of g image) entries dotdot
-
-abbrev pub IsIndexed : Geometry → List ℕ → ℕ → Type 0
-IsIndexed g image dir = HasIndex (inode_of g image dir) (block_of g image)

@@ -15,7 +15,10 @@ pub mod Directory
 pub mod HashedTree
 pub mod Trees
 pub mod DirectoryForms
+pub mod LeafForms
+pub mod DirectoryHolds
 pub mod DirectoryRules
+pub mod Costs
 pub mod Causes
 pub mod Errors
 pub mod Words

@@ -9,12 +9,10 @@ use Rattle.xn_bytes.specs.Replies.{Reply, EntryOf, ErrorOf}
 
 -- ---- how a reading command ends
 
--- With a reply; at an inode that breaks a rule, which is told with the inode and the block; or at a directory in a form
--- that is not built yet.
+-- With a reply, or at an inode that breaks a rule, which is told with the inode and the block.
 pub data End : Type 0 where
   Says : Reply → End
   Breaks : ℕ → ℕ → ℕ → End
-  Beyond : End
 
 -- ---- the map
 

@@ -1,13 +1,13 @@
 -- What the program answers: one relation from its words and the image to its status and what it tells.
 use Rattle.std.specs.Prelude.{◌≡◌, ◌⊎◌, ℕ, ◌/◌, List, [], ◌++◌, length, take, Option, Some, None, IfSome, MatchOption}
 use Rattle.xn_bytes.specs.declared.status.Status.{Status}
-use Rattle.xn_bytes.specs.declared.status.Status.TheVariants.{Done, Usage, Image, ReadFault, SayFault, Memory, Unbuilt}
+use Rattle.xn_bytes.specs.declared.status.Status.TheVariants.{Done, Usage, Image, ReadFault, SayFault, Memory}
 use Rattle.xn_bytes.specs.Numbers.{sector_of}
 use Rattle.xn_bytes.specs.Causes.{Rose}
 use Rattle.xn_bytes.specs.Superblock.{Geometry, geometry_of, IsSuperblock}
 use Rattle.xn_bytes.specs.Words.{AsksList, AsksResolve, AsksNothing}
-use Rattle.xn_bytes.specs.Replies.{usage_line, unbuilt_line, image_line, reply_text}
-use Rattle.xn_bytes.specs.NameSpace.{End, Says, Breaks, Beyond}
+use Rattle.xn_bytes.specs.Replies.{usage_line, image_line, reply_text}
+use Rattle.xn_bytes.specs.NameSpace.{End, Says, Breaks}
 use Rattle.xn_bytes.specs.Reading.{ListEnds, ResolveEnds}
 
 -- ---- the image
@@ -26,13 +26,11 @@ HasSuperblock image = IsSuperblock (sector_of image 0) (length image / 512)
 abbrev pub end_status : End → Status
 end_status (Says reply) = Done
 end_status (Breaks inode rule block) = Image
-end_status Beyond = Unbuilt
 
 -- and the text
 abbrev pub end_text : End → List ℕ
 end_text (Says reply) = reply_text reply
 end_text (Breaks inode rule block) = image_line rule inode block
-end_text Beyond = unbuilt_line
 
 -- What a command that reads answers: that the superblock is not accepted, or else the end that the command has over the
 -- image, by its geometry. Where an image is told, each answer comes exactly where its cause stands.
@@ -100,7 +98,6 @@ abbrev pub Outcome : List (List ℕ) → Outside → Outside → Status → Type
 Outcome words before now Done = TellsAnswer words before now Done
 Outcome words before now Usage = TellsAnswer words before now Usage
 Outcome words before now Image = TellsAnswer words before now Image
-Outcome words before now Unbuilt = TellsAnswer words before now Unbuilt
 Outcome words before now ReadFault = FailsToRead words before now
 Outcome words before now SayFault = FailsToSay words before now
 Outcome words before now Memory = Tells before now []
@@ -113,4 +110,3 @@ status_number Image = 2
 status_number ReadFault = 4
 status_number SayFault = 6
 status_number Memory = 7
-status_number Unbuilt = 11

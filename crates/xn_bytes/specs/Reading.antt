@@ -7,13 +7,15 @@ use Rattle.xn_bytes.specs.Names.{IsName}
 use Rattle.xn_bytes.specs.Kinds.{kind_of_mode}
 use Rattle.xn_bytes.specs.Entries.{Entry}
 use Rattle.xn_bytes.specs.Superblock.{Geometry}
+use Rattle.xn_bytes.specs.Blocks.{block_of}
 use Rattle.xn_bytes.specs.Inode.{inode_of, HasCore, HasBothForks}
 use Rattle.xn_bytes.specs.Directory.{IsLive, HasNames, IsListing}
-use Rattle.xn_bytes.specs.DirectoryForms.{DirHolds, EntriesStand, IsIndexed}
-use Rattle.xn_bytes.specs.DirectoryRules.{DirBreaks, IsUnbuilt, IsBuilt}
+use Rattle.xn_bytes.specs.DirectoryHolds.{DirHolds, EntriesStand, IsIndexed, StandsInBlocks}
+use Rattle.xn_bytes.specs.LeafForms.{IsInBlocks}
+use Rattle.xn_bytes.specs.DirectoryRules.{DirBreaks, DirFails, HasInode}
 use Rattle.xn_bytes.specs.Replies.{ListOf, ErrorOf, line_of}
 use Rattle.xn_bytes.specs.Paths.{parts_of}
-use Rattle.xn_bytes.specs.NameSpace.{End, Says, Breaks, Beyond, Place, NameMap, Step, Ends, Walks, part_error, step_to}
+use Rattle.xn_bytes.specs.NameSpace.{End, Says, Breaks, Place, NameMap, Step, Ends, Walks, part_error, step_to}
 
 -- ---- inodes
 
@@ -59,7 +61,7 @@ IsDirectoryIn g image ino = IsDirectory g (inode_of g image ino) ino
 
 -- the entries of a directory of which rules 10, 11, 13 and 15 to 21 hold, sorted by name
 pub record Lists (g : Geometry) (image : List ℕ) (dir : ℕ) (sorted : List Entry) : Type 0 where
-  pub built : IsBuilt g (inode_of g image dir) dir
+  pub inode : HasInode g (inode_of g image dir) dir
   pub entries : List Entry
   pub dotdot : ℕ
   pub holds : DirHolds g image dir entries dotdot
@@ -69,8 +71,7 @@ pub record Lists (g : Geometry) (image : List ℕ) (dir : ℕ) (sorted : List En
 -- what is answered of an attached directory
 abbrev pub ListsDirectory : Geometry → ℕ → List ℕ → End → Type 0
 ListsDirectory g dir image end =
-    ((end ≡ Beyond) × IsUnbuilt g (inode_of g image dir) dir)
-    ⊎ ((rule : ℕ) × (block : ℕ) × (end ≡ Breaks dir rule block) × DirBreaks g image dir rule block)
+    ((rule : ℕ) × (block : ℕ) × (end ≡ Breaks dir rule block) × DirBreaks g image dir rule block)
     ⊎ ((sorted : List Entry) × (end ≡ Says (ListOf (map line_of sorted))) × Lists g image dir sorted)
 
 -- What `list` answers of an inode. The cases shut each other out, and one of them is that of the image.
@@ -89,16 +90,27 @@ HaveName name entries None = All (λ entry. entry.name ≢ name) entries
 HaveName name entries (Some place) =
     (position : ℕ) × Contains entries (record { name = name; ino = place.ino; kind = place.kind; position = position })
 
--- What a name stands for in a directory of which rules 10, 11 and 13 hold: what the entries say that stand there, whose
--- form and first block are right (rules 15 to 17), where its leaf entries are sorted and those of the entries. What is found
--- is always the place of one of these entries. Where the directory holds entries, it is what they say.
-pub record StandsFor (g : Geometry) (image : List ℕ) (dir : ℕ) (name : List ℕ) (found : Option Place) : Type 0 where
-  pub built : IsBuilt g (inode_of g image dir) dir
+-- In short and block form what a name stands for is what the entries say that stand there, whose form and first block are
+-- right (rules 15 to 17), where its leaf entries are sorted and those of the entries. What is found is always the place of
+-- one of these entries.
+pub record RestsOnAll (g : Geometry) (image : List ℕ) (dir : ℕ) (name : List ℕ) (found : Option Place) : Type 0 where
   pub entries : List Entry
   pub dotdot : ℕ
   pub stand : EntriesStand g image dir entries dotdot
   pub there : IfSome found (λ place. HaveName name entries (Some place))
   pub indexed : IsIndexed g image dir → HaveName name entries found
+
+-- In leaf and node form what is found is the place of an entry that stands in a data block (rules 15 and 17).
+abbrev pub RestsOnOne : Geometry → List ℕ → ℕ → List ℕ → Option Place → Type 0
+RestsOnOne g image dir name found =
+    IsInBlocks (inode_of g image dir)
+    × IfSome found (λ place. (position : ℕ) × StandsInBlocks g dir (inode_of g image dir) (block_of g image) (record { name = name; ino = place.ino; kind = place.kind; position = position }))
+
+-- What a name stands for in a directory of which rules 10, 11 and 13 hold. Where the directory holds entries, it is what they
+-- say.
+pub record StandsFor (g : Geometry) (image : List ℕ) (dir : ℕ) (name : List ℕ) (found : Option Place) : Type 0 where
+  pub inode : HasInode g (inode_of g image dir) dir
+  pub rests : RestsOnAll g image dir name found ⊎ RestsOnOne g image dir name found
   pub among : (held : List Entry) (parent : ℕ) → DirHolds g image dir held parent → HaveName name held found
 
 -- the place is that of no directory: not by the entry that led there, or not by its inode
@@ -108,8 +120,7 @@ HasNoParts g image here = (here.kind ≢ Dir) ⊎ ((here.kind ≡ Dir) × (¬ Is
 -- what comes of a name in a directory
 abbrev pub TakesName : Geometry → List ℕ → ℕ → List ℕ → Step → Type 0
 TakesName g image dir name step =
-    ((step ≡ Ends Beyond) × IsUnbuilt g (inode_of g image dir) dir)
-    ⊎ ((rule : ℕ) × (block : ℕ) × (step ≡ Ends (Breaks dir rule block)) × DirBreaks g image dir rule block)
+    ((rule : ℕ) × (block : ℕ) × (step ≡ Ends (Breaks dir rule block)) × DirFails g image dir rule block)
     ⊎ ((found : Option Place) × (step ≡ step_to found) × StandsFor g image dir name found)
 
 -- what comes of a part at a directory

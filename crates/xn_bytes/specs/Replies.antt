@@ -21,10 +21,6 @@ newline = 10
 abbrev pub usage_line : List ℕ
 usage_line = codes "usage" ++ newline ∷ []
 
--- told of a directory in leaf or node form, which this version doesn't read
-abbrev pub unbuilt_line : List ℕ
-unbuilt_line = codes "unbuilt" ++ newline ∷ []
-
 -- the rule that an image breaks, the inode that breaks it, and the block
 abbrev pub image_line : ℕ → ℕ → ℕ → List ℕ
 image_line rule inode block =

@@ -3,7 +3,7 @@
 -- each node before its children and these from left to right, and each block is compared with what was met before it. One
 -- definition serves every kind of leaf: what a leaf's bytes hold, and the first and the last hash in them, are its
 -- parameters.
-use Rattle.std.specs.Prelude.{◌≡◌, ◌≢◌, ◌⊎◌, ℕ, zero, suc, ◌+◌, ◌-◌, ◌<◌, ◌≤◌, ◌==◌, ◌&&◌, ◌||◌, nat_le, nat_lt, Bool, IsTrue, if◌then◌else◌, List, [], ◌∷◌, ◌++◌, length, map, flat_map, find, All, Option, Some, None, IsSome, IfSome, MatchOption, slice_range, unwrap_or}
+use Rattle.std.specs.Prelude.{◌≡◌, ◌≢◌, ◌⊎◌, ℕ, zero, suc, ◌+◌, ◌-◌, ◌<◌, ◌≤◌, ◌==◌, ◌&&◌, ◌||◌, nat_le, nat_lt, Bool, true, false, IsTrue, if◌then◌else◌, List, [], ◌∷◌, ◌++◌, length, map, flat_map, find, count_by, All, Option, Some, None, IsSome, IfSome, slice_range, unwrap_or}
 use Rattle.std.specs.List.Sorted.{IsNonDecreasingBy}
 use Rattle.xn_bytes.specs.Numbers.{number_at}
 use Rattle.xn_bytes.specs.Checksum.{HasChecksum}
@@ -261,3 +261,16 @@ DescendsTo (suc level) tree hash file_block leaf =
 -- the leaf of the descent to a hash
 abbrev pub IsLeafFor : {E : Type 0} → Tree E → ℕ → ℕ → Type 0
 IsLeafFor tree hash leaf = DescendsTo (level_in (bytes_at tree tree.fork.root)) tree hash tree.fork.root leaf
+
+-- the last hash is this
+abbrev pub ends_at : ℕ → Option (ℕ × ℕ) → Bool
+ends_at hash None = false
+ends_at hash (Some both) = both.1 == hash
+
+abbrev pub has_none : List Child → Bool
+has_none [] = true
+has_none (child ∷ others) = false
+
+-- how many leaves, among blocks, end with a hash, stale entries counted
+abbrev pub leaves_to : {E : Type 0} → ℕ → List (Held E) → ℕ
+leaves_to hash helds = count_by (λ held. has_none held.children && ends_at hash held.ends) helds

@@ -16,8 +16,6 @@ pub enum Status {
     SayFault,
     /// Memory ran out.
     Memory,
-    /// A directory that was looked at is in leaf or node form, which this version does not read.
-    Unbuilt,
 }
 
 impl Status {
@@ -32,7 +30,6 @@ impl Status {
             Status::ReadFault => 4,
             Status::SayFault => 6,
             Status::Memory => 7,
-            Status::Unbuilt => 11,
         }
     }
 }

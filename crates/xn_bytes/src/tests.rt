@@ -97,7 +97,7 @@ fn bytes_give_back_what_they_are(rt: HostRuntime) -> Result<(), Fail> {
 }
 
 #[test]
-fn kinds_and_statuses(rt: HostRuntime) {
+fn kinds(rt: HostRuntime) {
     let words = ["reg", "dir", "chr", "blk", "fifo", "sock", "lnk"];
     let modes = [
         0o100644, 0o040755, 0o020000, 0o060000, 0o010000, 0o140000, 0o120777,
@@ -110,7 +110,6 @@ fn kinds_and_statuses(rt: HostRuntime) {
     }
     assert!(rt; Kind::from_number(0).is_none() && Kind::from_number(8).is_none());
     assert!(rt; Kind::from_mode(0).is_none());
-    assert_eq!(rt; Status::Unbuilt.number(), 11);
 }
 
 #[test]
