@@ -2,3 +2,6 @@ pub mod Frames
 pub mod HomeRuns
 pub mod Runs
 pub mod Records
+pub mod Nexts
+pub mod Lasts
+pub mod Counts

@@ -1,9 +1,9 @@
 //! Lists of extents: which blocks of the image hold the blocks of a file.
 
-ghost use Rattle.std.specs.Prelude.{◌≡◌, ◌+◌, ◌*◌, ◌^◌, ◌≤◌, ◌<◌, ◌↔◌, IsTrue, MatchResult, Option, Some, drop, length, slice_get, nat_le};
+ghost use Rattle.std.specs.Prelude.{◌≡◌, ◌+◌, ◌-◌, ◌*◌, ◌^◌, ◌≤◌, ◌<◌, ◌↔◌, ℕ, IsSome, IsTrue, MatchOption, MatchResult, None, Option, Some, drop, length, slice_get, nat_le, nat_lt};
 ghost use Rattle.xn_bytes.specs.Extents.{Run, AreRecords, AreRuns, IsFirstBad, IsRecord, run_in, runs_in, end_of_run, mapped};
 ghost use Rattle.xn_inode.specs.declared.extents.ExtentFault.TheVariants.{Memory};
-ghost use Rattle.xn_inode.specs.Lists.{NotRead, mapped_by};
+ghost use Rattle.xn_inode.specs.Lists.{IsLastMapped, IsLastRun, IsNextMapped, IsPlace, NotRead};
 
 use std::alloc::{AllocError, AllocFailed, Global};
 use std::marker::Model;
@@ -127,15 +127,66 @@ impl Extents {
         }
     }
 
+    /// The least file block from one on and below a limit that is mapped, and the block that it is mapped to.
+    pub fn next_mapped(&self, from: u64, limit: u64) -> Option<(u64, u64)>
+        ensures { MatchOption result
+            ((file_block : ℕ) → from ≤ file_block → file_block < limit → mapped self.now file_block ≡ None)
+            (λ next. IsNextMapped self.now from limit next.0 next.1) }
+    {
+        let run = self.runs.get(self.place(from))?;
+        let file_block = run.file_block.max(from);
+        if file_block < limit {
+            Some((file_block, run.block + (file_block - run.file_block)))
+        } else {
+            None
+        }
+    }
+
+    /// The greatest file block below a limit that is mapped.
+    pub fn last_mapped(&self, limit: u64) -> Option<u64>
+        ensures { MatchOption result
+            ((file_block : ℕ) → file_block < limit → mapped self.now file_block ≡ None)
+            (λ last. IsLastMapped self.now limit last) }
+    {
+        let run = self.last_run(limit)?;
+        Some(run.end().min(limit) - 1)
+    }
+
+    /// The file block behind the last that is mapped, 0 where none is.
+    pub fn end(&self) -> u64
+        ensures behind { (file_block : ℕ) → result ≤ file_block → mapped self.now file_block ≡ None }
+        ensures last { 0 < result → IsSome (mapped self.now (result - 1)) }
+    {
+        match self.runs.last() {
+            Some(run) => run.end(),
+            None => 0,
+        }
+    }
+
     /// The index of the first run that ends behind a file block, or past the last.
     fn place(&self, file_block: u64) -> usize
-        ensures { mapped self.now file_block ≡ mapped_by (slice_get self.now result) file_block }
+        ensures { IsPlace self.now file_block result }
     {
         self.runs.partition_point(
             |run: &Extent| -> bool
                 ensures { result ≡ nat_le (end_of_run run.now) file_block }
             { run.end() <= file_block },
         )
+    }
+
+    /// The last run that begins below a limit.
+    fn last_run(&self, limit: u64) -> Option<Extent>
+        ensures { MatchOption result
+            ((file_block : ℕ) → file_block < limit → mapped self.now file_block ≡ None)
+            (IsLastRun self.now limit) }
+    {
+        let count = self.runs.partition_point(
+            |run: &Extent| -> bool
+                ensures { result ≡ nat_lt run.now.file_block limit }
+            { run.file_block < limit },
+        );
+        let at = count.checked_sub(1)?;
+        Some(self.runs[at])
     }
 
     /// How many records there are.

@@ -15,8 +15,6 @@ pub enum ForkFault {
     /// The inode breaks this rule of the checker. Rules of blocks name the block by its number on the device, all
     /// others block 0.
     Broken { rule: u8, block: u64 },
-    /// It is a directory in leaf or node form, which this version doesn't read.
-    Unbuilt,
 }
 
 impl From<StoreFault> for ForkFault {
