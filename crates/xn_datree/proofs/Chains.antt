@@ -9,11 +9,12 @@ use Rattle.xn_bytes.specs.HashedTree.{Child}
 use Rattle.xn_bytes.specs.Trees.{Tree, Held, Met, Visit, Stands, Walks, IsTree, TreeHolds, IsBeside, entries_in, left_on, met_with, visits_below, bytes_at, level_in, left_in, last_of}
 use Rattle.xn_inode.specs.declared.store.Store.{Ghosts}
 use Rattle.xn_inode.specs.declared.fork_fault.ForkFault.{ForkFault}
-use Rattle.xn_inode.specs.declared.fork_fault.ForkFault.TheVariants.{Read, Memory, Broken, Unbuilt}
+use Rattle.xn_inode.specs.declared.fork_fault.ForkFault.TheVariants.{Read, Memory, Broken}
 use Rattle.xn_inode.specs.Frames.{StoreStays}
 use Rattle.xn_datree.specs.declared.fork.Fork.{Fork}
 use Rattle.xn_datree.specs.Forks.{IsTreeFault}
-use Rattle.xn_datree.specs.Finding.{ComesDown, IsNoLeaf, ends_at, has_none, leaves_to}
+use Rattle.xn_datree.specs.Finding.{ComesDown, IsNoLeaf}
+use Rattle.xn_bytes.specs.Trees.{ends_at, has_none, leaves_to}
 use Rattle.xn_datree.proofs.Trails.{level_is}
 use Rattle.xn_datree.proofs.Walking.{over_one, over_two}
 use Rattle.xn_datree.proofs.Passing.{LeafLaws, level_of_leaf}
@@ -303,4 +304,3 @@ module _ {E S : Type 0} (store : Ghosts S) (T : List ℕ → Tree E) (fork : For
         f on.held on.flat on.stands)
         (subst (λ (i : Option (List ℕ)). IfSome i (λ x. IsNoLeaf (T x) (left ∷ trail) (right_of left))) stays.image_stays fails.1) chain,
   )
-  chain_fault found trail left old mid new Unbuilt some low_last stays chain fails = absurd fails

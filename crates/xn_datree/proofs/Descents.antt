@@ -10,7 +10,7 @@ use Rattle.xn_bytes.specs.HashedTree.{Child}
 use Rattle.xn_bytes.specs.Trees.{Tree, TreeFork, Held, Met, Visit, Asked, Stands, StandsAlone, IsAsked, IsNode, HoldsBlock, Walks, IsTree, entries_in, met_with, visit_to, visits_below, bytes_at, block_number, level_in, last_of, last_hash, child_for, root_visit, ends_of_children}
 use Rattle.xn_inode.specs.declared.store.Store.{Ghosts}
 use Rattle.xn_inode.specs.declared.fork_fault.ForkFault.{ForkFault}
-use Rattle.xn_inode.specs.declared.fork_fault.ForkFault.TheVariants.{Read, Memory, Broken, Unbuilt}
+use Rattle.xn_inode.specs.declared.fork_fault.ForkFault.TheVariants.{Read, Memory, Broken}
 use Rattle.xn_inode.specs.Frames.{StoreStays}
 use Rattle.xn_datree.specs.declared.fork.Fork.{Fork}
 use Rattle.xn_datree.specs.Forks.{tree_fork, IsTreeFault}
@@ -322,4 +322,3 @@ module _ {E S : Type 0} (store : Ghosts S) (T : List ℕ → Tree E) (fork : For
             let now = reads (T x) hash limit there.future there.met visit there.agenda there.goes in
             f.1 now.held now.stands.alone) leads there,
       )
-  alone_fault visit old mid new Unbuilt stays leads fails = absurd fails

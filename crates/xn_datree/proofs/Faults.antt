@@ -4,7 +4,7 @@ use Rattle.std.specs.Prelude.{IfSome}
 use Rattle.xn_bytes.specs.Trees.{Tree, TreeFork, Held, Met, Visit, Stands, BreaksAt, block_number}
 use Rattle.xn_inode.specs.declared.store.Store.{Ghosts}
 use Rattle.xn_inode.specs.declared.fork_fault.ForkFault.{ForkFault}
-use Rattle.xn_inode.specs.declared.fork_fault.ForkFault.TheVariants.{Read, Memory, Broken, Unbuilt}
+use Rattle.xn_inode.specs.declared.fork_fault.ForkFault.TheVariants.{Read, Memory, Broken}
 use Rattle.xn_inode.specs.Frames.{StoreStays}
 use Rattle.xn_datree.specs.declared.fork.Fork.{Fork}
 use Rattle.xn_datree.specs.Forks.{tree_fork, IsTreeFault}
@@ -26,4 +26,3 @@ visit_fault {E} store T fork visit entries met agenda whole old mid new (Broken 
           (λ x f. (subst (λ (t : TreeFork). block ≡ block_number t visit.file_block) (forks x) f.0, f.1)) there)
           led,
     )
-visit_fault store T fork visit entries met agenda whole old mid new Unbuilt stays forks w led fails = absurd fails

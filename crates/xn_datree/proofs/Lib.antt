@@ -9,3 +9,4 @@ pub mod Leaves
 pub mod Descents
 pub mod Chains
 pub mod Ways
+pub mod Hashes

@@ -1,6 +1,5 @@
 -- Where a descent has come to.
-use Rattle.std.specs.Prelude.{◌==◌, ◌&&◌, Bool, true, false, count_by, Option, None, ◌≡◌, ◌⊎◌, ℕ, ◌<◌, ◌≤◌, List, [], ◌∷◌, ◌++◌, All, Some, IsSome}
-use Rattle.xn_bytes.specs.HashedTree.{Child}
+use Rattle.std.specs.Prelude.{◌≡◌, ◌⊎◌, ℕ, ◌<◌, ◌≤◌, List, [], ◌∷◌, ◌++◌, All, Some, IsSome}
 use Rattle.xn_bytes.specs.Trees.{Tree, Held, Met, Visit, Stands, Walks, entries_in, met_with, bytes_at, level_in}
 
 -- Of a tree whose blocks hold these things, in the order of the walk: this file block, with these bytes, is a leaf and holds this;
@@ -24,16 +23,3 @@ pub record ComesDown {E : Type 0} (tree : Tree E) (hash : E → ℕ) (limit : �
 -- no leaf stands there, behind those that were met
 abbrev pub IsNoLeaf : {E : Type 0} → Tree E → List Met → Visit → Type 0
 IsNoLeaf {E} tree met visit = (held : Held E) → level_in (bytes_at tree visit.file_block) ≡ 0 → ¬ Stands tree met visit held
-
--- the last hash is this
-abbrev pub ends_at : ℕ → Option (ℕ × ℕ) → Bool
-ends_at hash None = false
-ends_at hash (Some both) = both.1 == hash
-
-abbrev pub has_none : List Child → Bool
-has_none [] = true
-has_none (child ∷ others) = false
-
--- how many leaves, among blocks, end with a hash, stale entries counted
-abbrev pub leaves_to : {E : Type 0} → ℕ → List (Held E) → ℕ
-leaves_to hash helds = count_by (λ held. has_none held.children && ends_at hash held.ends) helds

@@ -6,7 +6,7 @@ use Rattle.xn_bytes.specs.Blocks.{block_of}
 use Rattle.xn_bytes.specs.Trees.{TreeFork, Tree, block_number, tree_rule}
 use Rattle.xn_inode.specs.declared.store.Store.{Ghosts}
 use Rattle.xn_inode.specs.declared.fork_fault.ForkFault.{ForkFault}
-use Rattle.xn_inode.specs.declared.fork_fault.ForkFault.TheVariants.{Read, Memory, Broken, Unbuilt}
+use Rattle.xn_inode.specs.declared.fork_fault.ForkFault.TheVariants.{Read, Memory, Broken}
 use Rattle.xn_datree.specs.declared.fork.Fork.{Fork}
 
 abbrev pub tree_fork : Geometry → Fork → TreeFork
@@ -27,7 +27,6 @@ abbrev pub IsTreeFault : {S : Type 0} → Ghosts S → (List ℕ → ℕ → Typ
 IsTreeFault store Breaks fork old new Read = Rose (store.faults old) (store.faults new)
 IsTreeFault store Breaks fork old new Memory = Unit {0}
 IsTreeFault store Breaks fork old new (Broken rule block) = (rule ≡ tree_rule fork.attribute) × IfSome (store.image old) (λ x. Breaks x block)
-IsTreeFault store Breaks fork old new Unbuilt = ⊥
 
 -- the same of one block, which the fault names
 abbrev pub IsVisitFault : {S : Type 0} → Ghosts S → (List ℕ → Type 0) → Fork → ℕ → S → S → ForkFault → Type 0

@@ -1,10 +1,10 @@
 //! The entries of one hash: the descent to the first leaf that can have them, and its right siblings as long as they go on.
 
-ghost use Rattle.std.specs.Prelude.{◌≡◌, ◌↔◌, ◌++◌, ◌==◌, ◌⊎◌, ◌<◌, ◌≤◌, ◌+◌, ◌∷◌, [], ℕ, List, IsTrue, IfErr, IfOk, IfSome, OnOk, Option, Some, None, filter, length};
+ghost use Rattle.std.specs.Prelude.{◌≡◌, ◌↔◌, ◌++◌, ◌==◌, ◌⊎◌, ◌<◌, ◌≤◌, ◌+◌, ◌∷◌, [], All, ℕ, List, IsTrue, IfErr, IfOk, IfSome, OnOk, Option, Some, None, filter, length};
 ghost use Rattle.xn_bytes.specs.HashedTree.{Child as HeldChild};
-ghost use Rattle.xn_bytes.specs.Trees.{AreBlocks, Held as Holding, IsLeafFor, IsTree, Stands, StandsAlone, TreeHolds, bytes_at, child_for, level_in, levels_of_tree};
+ghost use Rattle.xn_bytes.specs.Trees.{AreBlocks, Held as Holding, IsLeafFor, IsTree, Stands, StandsAlone, TreeHolds, bytes_at, child_for, leaves_to, level_in, levels_of_tree};
 ghost use Rattle.xn_inode.specs.Frames.{StoreStays};
-ghost use Rattle.xn_datree.specs.Finding.{ComesDown, IsNoLeaf, leaves_to};
+ghost use Rattle.xn_datree.specs.Finding.{ComesDown, IsNoLeaf};
 ghost use Rattle.xn_datree.specs.Held.{held_of};
 ghost use Rattle.xn_datree.specs.Forks.{tree_fork, tree_of, IsTreeFault, IsVisitFault};
 
@@ -129,6 +129,7 @@ impl<L: Leaf> Tree<L> {
         requires whole { S.IsWhole store.old }
         requires blocks { AreBlocks (S.shape store.old) fork.now.extents }
         ensures found { IfOk result (λ found. IfSome (S.image store.old) (λ x. (entries : List L.Entry) → TreeHolds (tree_of L.Holds L.ends (S.shape store.old) fork.now x) entries → found.items ≡ filter (λ entry. L.hash entry == hash) entries)) }
+        ensures of_hash { IfOk result (λ found. All (λ entry. L.hash entry ≡ hash) found.items) }
         ensures fault { IfErr result (IsTreeFault S.Store (λ x _. (helds : List (Holding L.Entry)) → ¬ IsTree (tree_of L.Holds L.ends (S.shape store.old) fork.now x) helds) fork.now store.old store.new) }
         ensures stays { StoreStays S.Store store.old store.new }
         ensures fetches { IfOk result (λ _. IfSome (S.image store.old) (λ x. (helds : List (Holding L.Entry)) → IsTree (tree_of L.Holds L.ends (S.shape store.old) fork.now x) helds → S.fetches store.new ≤ S.fetches store.old + levels_of_tree (tree_of L.Holds L.ends (S.shape store.old) fork.now x) + leaves_to hash helds)) }

@@ -1,4 +1,4 @@
-use Rattle.std.proofs.Common.{◌≡◌, ◌+◌, ◌≤◌, arith, length, ℕ, List, ◌∷◌, refl, sym, ap, ◌∙◌, inl, inr, rules}
+use Rattle.std.proofs.Common.{◌≡◌, ◌+◌, ◌≤◌, arith, length, ℕ, List, [], ◌∷◌, refl, sym, ap, ◌∙◌, inl, inr, rules}
 use Rattle.std.proofs.lemmas.Bool.{false≢true}
 use Rattle.std.proofs.lemmas.Result.{err_from_is_err_and}
 use Rattle.xn_inode.proofs.Frames.{stays_on}
@@ -6,8 +6,10 @@ use Rattle.xn_datree.specs.Held.{held_of}
 use Rattle.xn_datree.specs.Forks.{tree_of}
 use Rattle.xn_datree.proofs.Chains.{not_above, chain_over_first, chain_over_last, chain_over_on, chain_fault, reads_over_last}
 use Rattle.xn_datree.proofs.Walking.{over_one, over_two}
-use Rattle.xn_datree.specs.Finding.{leaves_to}
+use Rattle.xn_bytes.specs.Trees.{leaves_to}
 use Rattle.xn_bytes.specs.Trees.{Held, IsTree, levels_of_tree}
+use Rattle.xn_datree.proofs.Hashes.{of_hash_on}
+use Rattle.std.proofs.lemmas.List.Elements.{All-nil}
 use Rattle.xn_datree.proofs.walk.Tree.find_all.Goals as goal
 
 pub loop-init : goal.loop-init
@@ -21,6 +23,7 @@ loop-init g c =
           refl c.met_in-left.ensures (search rules) c.in_ok-visit.ensures.leaf);
       few = over_one (λ x. g.S.Store.fetches c.descend.new.store ≤ g.S.Store.fetches store + levels_of_tree (T x)) (λ x. g.S.Store.fetches c.descend.new.store ≤ g.S.Store.fetches store + levels_of_tree (T x) + length c.new-trail.result) (g.S.Store.image store)
           (λ x so. omega (arith, so)) c.in_ok-visit.ensures.levels;
+      of_hash = of_hash_on g.L.Leaf.hash c.args.hash [] c.in_ok-visit.held.entries.items c.take_with_hash.new.found.items (All-nil (λ entry. g.L.Leaf.hash entry ≡ c.args.hash)) (search rules);
     }
 
 pub returns-then-is_last_for-clause-found : goal.returns-then-is_last_for-clause-found
@@ -60,6 +63,7 @@ loop-preserved g c =
       few = let longer = ap length met in
           over_one (λ x. g.S.Store.fetches c.loop.store ≤ g.S.Store.fetches store + levels_of_tree (T x) + length c.loop.trail) (λ x. g.S.Store.fetches c.read_leaf.new.store ≤ g.S.Store.fetches store + levels_of_tree (T x) + length c.meet.new.self) (g.S.Store.image store)
           (λ x so. omega (arith, so, longer, c.in_ok-held.ensures.fetches)) loop.few;
+      of_hash = of_hash_on g.L.Leaf.hash c.args.hash c.loop.found.items c.in_ok-held.held.entries.items c.take_with_hash-in-loop.new.found.items loop.of_hash (search rules);
     }
 
 pub returns-then-is_last_for-clause-fetches : goal.returns-then-is_last_for-clause-fetches

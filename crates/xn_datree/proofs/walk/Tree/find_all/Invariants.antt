@@ -1,5 +1,5 @@
-use Rattle.std.proofs.Common.{◌+◌, ◌≤◌, length}
-use Rattle.std.specs.Prelude.{IfSome}
+use Rattle.std.proofs.Common.{◌≡◌, ◌+◌, ◌≤◌, length}
+use Rattle.std.specs.Prelude.{All, IfSome}
 use Rattle.xn_bytes.specs.Trees.{levels_of_tree}
 use Rattle.xn_inode.specs.Frames.{StoreStays}
 use Rattle.xn_datree.specs.Forks.{tree_of}
@@ -10,5 +10,6 @@ abbrev pub invariant-loop : goal.invariant-loop
 invariant-loop g l = record {
   stays : StoreStays g.S.Store l.fn.store l.store;
   chain : IfSome (g.S.Store.image l.fn.store) (ChainAll (λ x. tree_of g.L.Leaf.Holds g.L.Leaf.ends (g.S.Store.shape l.fn.store) l.fn.fork x) g.L.Leaf.hash l.hash l.found.items l.trail l.left);
+  of_hash : All (λ entry. g.L.Leaf.hash entry ≡ l.hash) l.found.items;
   few : IfSome (g.S.Store.image l.fn.store) (λ x. g.S.Store.fetches l.store ≤ g.S.Store.fetches l.fn.store + levels_of_tree (tree_of g.L.Leaf.Holds g.L.Leaf.ends (g.S.Store.shape l.fn.store) l.fn.fork x) + length l.trail);
 }
