@@ -7,7 +7,7 @@ use Rattle.xn_bytes.specs.Directory.{HasNames}
 use Rattle.xn_bytes.specs.DirectoryForms.{HasDots, HoldsFirst, HasTail, IsIndexOf}
 use Rattle.xn_bytes.specs.DirectoryRules.{BreaksFirst}
 use Rattle.xn_inode.specs.declared.fork_fault.ForkFault.{ForkFault}
-use Rattle.xn_inode.specs.declared.fork_fault.ForkFault.TheVariants.{Read, Memory, Broken, Unbuilt}
+use Rattle.xn_inode.specs.declared.fork_fault.ForkFault.TheVariants.{Read, Memory, Broken}
 use Rattle.xn_dir.specs.Faults.{IsRule, IsFirstFault, IsIndexFault}
 
 pub no_dots : (g : Geometry) (dir place : ℕ) (bytes : List ℕ) (held : DataForm) (all : List Entry) → ((form : DataForm) → DataHolds bytes form → held ≡ form) → all ≡ entries_among held.regions
@@ -27,7 +27,6 @@ breaks_index g dir place bytes form entries dotdot Memory first is = tt
 breaks_index g dir place bytes form entries dotdot (Broken rule block) first (inl tail) = inr (form, entries, dotdot, first, inl tail)
 breaks_index g dir place bytes form entries dotdot (Broken rule block) first (inr (tail, inl index)) = inr (form, entries, dotdot, first, inr (tail, inl index))
 breaks_index g dir place bytes form entries dotdot (Broken rule block) first (inr (tail, inr rest)) = absurd rest.1
-breaks_index g dir place bytes form entries dotdot Unbuilt first is = is
 
 -- wrong names break rule 21
 pub breaks_names : (g : Geometry) (dir place : ℕ) (bytes : List ℕ) (form : DataForm) (entries : List Entry) (dotdot : ℕ) (Fact : Type 0) (fault : ForkFault) → HoldsFirst g dir place bytes form entries dotdot → HasTail form
@@ -36,4 +35,3 @@ breaks_names g dir place bytes form entries dotdot Fact Read first tail index pa
 breaks_names g dir place bytes form entries dotdot Fact Memory first tail index part is = is
 breaks_names g dir place bytes form entries dotdot Fact (Broken rule block) first tail index part is =
     inr (form, entries, dotdot, first, inr (tail, inr (index, (is.0, is.1, λ names. is.2 (part names)))))
-breaks_names g dir place bytes form entries dotdot Fact Unbuilt first tail index part is = is

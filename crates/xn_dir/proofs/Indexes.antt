@@ -12,7 +12,8 @@ use Rattle.xn_bytes.specs.Hashes.{name_hash_of}
 use Rattle.xn_bytes.specs.Entries.{Entry, data_entry_length}
 use Rattle.xn_bytes.specs.DataBlock.{DataForm, LeafEntry, entries_among}
 use Rattle.xn_bytes.specs.Superblock.{Geometry}
-use Rattle.xn_bytes.specs.DirectoryForms.{AreSorted, HasTail, HasDots, HoldsFirst, IsIndexOf, is_stale, leaf_of}
+use Rattle.xn_bytes.specs.DirectoryForms.{AreSorted, HasTail, HasDots, HoldsFirst, IsIndexOf, leaf_of}
+use Rattle.xn_bytes.specs.HashedTree.{is_stale}
 use Rattle.xn_data.specs.Standing.{ArePlaced}
 use Rattle.xn_inode.specs.declared.fork_fault.ForkFault.{ForkFault}
 use Rattle.xn_dir.specs.declared.entry.Entry as found
@@ -210,7 +211,7 @@ pub past_other : (form : DataForm) (name : List ℕ) (leaf : LeafEntry) (left af
 past_other form name leaf left after found step within at other looks = looks_past form name leaf left after step (inr (found, within, at, other)) looks
 
 -- an entry with a name is none of dot and dotdot
-behind_dots : (all entries : List Entry) (dotdot : ℕ) (entry : Entry) → HasDots all entries dotdot → IsName entry.name → Contains all entry → Contains entries entry
+pub behind_dots : (all entries : List Entry) (dotdot : ℕ) (entry : Entry) → HasDots all entries dotdot → IsName entry.name → Contains all entry → Contains entries entry
 behind_dots all entries dotdot entry dots named within =
     elim (front_or_behind dots.dot entry (dots.parent ∷ entries) (subst (λ (es : List Entry). Contains es entry) dots.first within)) [
       | inl same ↦ absurd (named.no_dots.0 (ap (λ (e : Entry). e.name) (sym same) ∙ dots.dot_name))

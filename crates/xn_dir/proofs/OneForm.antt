@@ -11,11 +11,12 @@ use Rattle.xn_bytes.specs.Extents.{mapped}
 use Rattle.xn_bytes.specs.Entries as held
 use Rattle.xn_bytes.specs.ShortDirectory.{ShortForm, ShortHolds}
 use Rattle.xn_bytes.specs.DataBlock.{DataForm, DataHolds, entries_among}
-use Rattle.xn_bytes.specs.DirectoryForms.{IsBlockForm, data_runs_of, AreSorted, HasDots, IsIndexOf, HoldsShort, HoldsFirst, HoldsBlock, Holds, StandIn, HasIndex}
+use Rattle.xn_bytes.specs.DirectoryForms.{IsBlockForm, data_runs_of, AreSorted, HasDots, IsIndexOf, HoldsShort, HoldsFirst, HoldsBlock}
+use Rattle.xn_bytes.specs.DirectoryHolds.{Holds, StandIn, HasIndex}
 use Rattle.xn_short.proofs.Forms as short_forms
 use Rattle.xn_data.proofs.Forms as data_forms
 use Rattle.xn_dir.specs.declared.entry.Entry.{Entry}
-use Rattle.xn_dir.specs.Finding.{Finds, FindsOver, StandsOver}
+use Rattle.xn_dir.specs.Finding.{Finds, FindsOver, RestsOnAll}
 
 pub in_extents : (inode : List ℕ) → number_at 1 5 inode ≡ extents_format → number_at 1 5 inode ≡ local_format → ⊥
 in_extents inode two one = omega (arith, two, one)
@@ -25,10 +26,10 @@ in_extents inode two one = omega (arith, two, one)
 one_short : (bytes : List ℕ) (a b : ShortForm) → ShortHolds bytes a → ShortHolds bytes b → a ≡ b
 one_short bytes a b of_a of_b = sym (short_forms.holds_read bytes a of_a).read ∙ (short_forms.holds_read bytes b of_b).read
 
-one_data : (bytes : List ℕ) (a b : DataForm) → DataHolds bytes a → DataHolds bytes b → a ≡ b
+pub one_data : (bytes : List ℕ) (a b : DataForm) → DataHolds bytes a → DataHolds bytes b → a ≡ b
 one_data bytes a b of_a of_b = sym (data_forms.holds_read bytes a of_a).read ∙ (data_forms.holds_read bytes b of_b).read
 
-same_block : (a b : ℕ) (o : Option ℕ) → o ≡ Some a → o ≡ Some b → a ≡ b
+pub same_block : (a b : ℕ) (o : Option ℕ) → o ≡ Some a → o ≡ Some b → a ≡ b
 same_block a b o is_a is_b = let e = sym is_a ∙ is_b in cc
 
 one_block : (inode : List ℕ) (a b : ℕ) → IsBlockForm (data_runs_of inode) a → IsBlockForm (data_runs_of inode) b → a ≡ b
@@ -61,16 +62,16 @@ those_that_stand : (g : Geometry) (dir : ℕ) (inode : List ℕ) (blocks : ℕ �
     → (a ≡ b) × HasIndex inode blocks
 those_that_stand g dir inode blocks a b dotdot parent (inl stand) (inl holds) = (entries_in_short inode a b dotdot parent stand holds, short_has_index inode blocks stand.is_local)
 those_that_stand g dir inode blocks a b dotdot parent (inl stand) (inr (inl holds)) = absurd (in_extents inode holds.is_extents stand.is_local)
-those_that_stand g dir inode blocks a b dotdot parent (inl stand) (inr (inr holds)) = absurd (in_extents inode holds.is_extents stand.is_local)
+those_that_stand g dir inode blocks a b dotdot parent (inl stand) (inr (inr holds)) = absurd (in_extents inode holds.form.is_extents stand.is_local)
 those_that_stand g dir inode blocks a b dotdot parent (inr stand) (inl holds) = absurd (in_extents inode stand.2 holds.is_local)
 those_that_stand g dir inode blocks a b dotdot parent (inr stand) (inr (inl holds)) =
     let at : holds.block ≡ stand.0 = one_block inode holds.block stand.0 holds.alone stand.3 in
     let first : HoldsFirst g dir stand.0 (blocks stand.0) holds.form b parent = subst (λ (block : ℕ). HoldsFirst g dir block (blocks block) holds.form b parent) at holds.first in
     (entries_in_first g dir stand.0 (blocks stand.0) stand.1 holds.form a b dotdot parent stand.5 first, block_has_index g dir inode blocks b parent holds)
-those_that_stand g dir inode blocks a b dotdot parent (inr stand) (inr (inr holds)) = absurd (holds.not_alone stand.0 stand.3)
+those_that_stand g dir inode blocks a b dotdot parent (inr stand) (inr (inr holds)) = absurd (holds.form.not_alone stand.0 stand.3)
 
 -- so what is found there is found in what the directory holds
-pub finds_over : (g : Geometry) (dir : ℕ) (image : Option (List ℕ)) (name : List ℕ) (found : Option Entry) → IfSome image (λ x. StandsOver g x dir name found) → IfSome image (λ x. FindsOver g x dir name found)
+pub finds_over : (g : Geometry) (dir : ℕ) (image : Option (List ℕ)) (name : List ℕ) (found : Option Entry) → IfSome image (λ x. RestsOnAll g x dir name found) → IfSome image (λ x. FindsOver g x dir name found)
 finds_over g dir image name found stands =
     IfSome_then image stands
     (λ x there entries dotdot holds.

@@ -1,33 +1,37 @@
 -- From the bytes of an inode and a block to the image that shows them.
-use Rattle.std.proofs.Common.{◌≡◌, ◌≢◌, ℕ, suc, ◌+◌, ◌*◌, List, [], ◌∷◌, Option, Some, None, Result, Ok, Err, refl, sym, ap, subst, ◌∙◌, arith, inl, inr}
+use Rattle.std.proofs.Common.{◌≡◌, ◌≢◌, ℕ, zero, suc, get_or, ◌+◌, ◌*◌, ◌≤◌, ◌<◌, List, [], ◌∷◌, Option, Some, None, Result, Ok, Err, refl, sym, ap, subst, ◌∙◌, arith, inl, inr}
 use Rattle.std.specs.Prelude.{◌-◌, IfOk, IfSome, IsSome}
 use Rattle.std.proofs.lemmas.Bool.{cases_lt, cases_eq}
 use Rattle.std.proofs.lemmas.Grind.{common_steps}
 use Rattle.std.proofs.lemmas.Bool.Decides.{nat_tests}
+use Rattle.std.proofs.lemmas.Option.{IfSome_then}
 use Rattle.xn_bytes.specs.Superblock.{Geometry, IsBlock}
 use Rattle.xn_bytes.specs.Blocks.{block_of, IsHome}
 use Rattle.xn_bytes.specs.Inode.{CoreFields, inode_of}
 use Rattle.xn_bytes.specs.Extents.{Run, mapped, end_of_run}
 use Rattle.xn_bytes.specs.Entries as held
 use Rattle.xn_bytes.specs.DataBlock.{DataForm, DataHolds, entries_among}
-use Rattle.xn_bytes.specs.DirectoryForms.{AreHome, HasBlocksSize, data_runs_of, HoldsShort, HoldsFirst, HasTail, IsIndexOf, DirHolds, EntriesStand}
-use Rattle.xn_bytes.specs.DirectoryRules.{IsBuilt}
+use Rattle.xn_bytes.specs.DirectoryForms.{AreHome, HasBlocksSize, data_runs_of, HoldsShort, HoldsFirst, HasTail, IsIndexOf}
+use Rattle.xn_bytes.specs.DirectoryHolds.{DirHolds, EntriesStand, HasDotdot}
+use Rattle.xn_bytes.specs.Costs.{HasLookUpCost, IsLookUpCost, list_cost, mapped_count}
+use Rattle.xn_bytes.specs.DirectoryRules.{HasInode, OrBreaksInode, OrBreaksForm}
 use Rattle.xn_bytes.specs.ShortDirectory.{ShortForm, ShortHolds}
 use Rattle.xn_bytes.specs.Directory.{HasShortSize, short_bytes_of}
 use Rattle.xn_inode.specs.declared.fork_fault.ForkFault.{ForkFault}
-use Rattle.xn_inode.specs.declared.fork_fault.ForkFault.TheVariants.{Read, Memory, Broken, Unbuilt}
+use Rattle.xn_inode.specs.declared.fork_fault.ForkFault.TheVariants.{Read, Memory, Broken}
 use Rattle.xn_dir.specs.declared.entry.Entry.{Entry}
 use Rattle.xn_dir.specs.declared.form.Form.{Form}
 use Rattle.xn_dir.specs.declared.form.Form.TheVariants as forms
 use Rattle.xn_dir.specs.Inodes.{IsDirectory, IsSoundInode, IsOfForm}
-use Rattle.xn_dir.specs.Faults.{IsFormFault, IsShortFault, IsFirstFault, IsFaultOver}
-use Rattle.xn_dir.specs.Finding.{Finds, StandsOver, StandsInFirst}
+use Rattle.xn_dir.specs.Faults.{IsFormFault, IsShortFault, IsFirstFault, IsFaultOver, Breaks}
+use Rattle.xn_dir.specs.Finding.{Finds, RestsOnAll, StandsOver, StandsInFirst}
+use Rattle.xn_inode.proofs.Counts.{few_of_mapped}
 use Rattle.xn_dir.proofs.ShortForms as short
 use Rattle.xn_dir.proofs.OneForm.{in_extents}
 
 -- ---- the block of block form
 
-mapped_home : (g : Geometry) (runs : List Run) (file_block block : ℕ) → AreHome g runs → mapped runs file_block ≡ Some block → IsHome g block
+pub mapped_home : (g : Geometry) (runs : List Run) (file_block block : ℕ) → AreHome g runs → mapped runs file_block ≡ Some block → IsHome g block
 mapped_home g [] file_block block home is = absurd cc
 mapped_home g (run ∷ runs) file_block block home is =
     let rest : mapped runs file_block ≡ Some block → IsHome g block = mapped_home g runs file_block block (λ k d below. home (suc k) d (omega (arith, below))) in
@@ -75,53 +79,50 @@ other_size g dir inode core block sound form other has =
 
 -- ---- the form
 
-built : (g : Geometry) (dir : ℕ) (image : Option (List ℕ)) (inode : List ℕ) (core : CoreFields) (form : Form) → IfSome image (λ x. inode ≡ inode_of g x dir) → IsSoundInode g dir inode core → IsOfForm inode form
-    → IfSome image (λ x. IsBuilt g (inode_of g x dir) dir)
-built g dir None inode core form same sound is = tt
-built g dir (Some x) inode core forms.Short same sound is = rw (← same) (record { core = sound.sound; forks = sound.forks; lists = sound.lists; form = inl is })
-built g dir (Some x) inode core (forms.Block block) same sound is = rw (← same) (record { core = sound.sound; forks = sound.forks; lists = sound.lists; form = inr (is.0, (block, is.1)) })
-
-pub built_where_ok : (g : Geometry) (dir : ℕ) (image : Option (List ℕ)) (inode : List ℕ) (r : Result (CoreFields × Form) ForkFault) → IfSome image (λ x. inode ≡ inode_of g x dir) → IfOk r (λ found. IsSoundInode g dir inode found.0)
-    → IfOk r (λ found. IsOfForm inode found.1) → IfOk r (λ _. IfSome image (λ x. IsBuilt g (inode_of g x dir) dir))
-built_where_ok g dir image inode (Ok found) same sound form = built g dir image inode found.0 found.1 same sound form
-built_where_ok g dir image inode (Err fault) same sound form = tt
+pub has_inode : (g : Geometry) (dir : ℕ) (image : Option (List ℕ)) (inode : List ℕ) (r : Result (CoreFields × Form) ForkFault) → IfSome image (λ x. inode ≡ inode_of g x dir)
+    → IfOk r (λ found. IsSoundInode g dir inode found.0) → IfOk r (λ _. IfSome image (λ x. HasInode g (inode_of g x dir) dir))
+has_inode g dir None inode (Ok found) same sound = tt
+has_inode g dir (Some x) inode (Ok found) same sound = rw (← same) (record { core = sound.sound; forks = sound.forks; lists = sound.lists })
+has_inode g dir image inode (Err fault) same sound = tt
 
 -- ---- faults
 
-pub over_form : (g : Geometry) (dir : ℕ) (image : Option (List ℕ)) (inode : List ℕ) (before now : ℕ) (fault : ForkFault) → IfSome image (λ x. inode ≡ inode_of g x dir) → IfSome image (λ x. IsDirectory (inode_of g x dir))
-    → IsFormFault g dir inode fault → IsFaultOver g dir image before now fault
-over_form g dir None inode before now Read same is fault = absurd fault
-over_form g dir None inode before now Memory same is fault = tt
-over_form g dir None inode before now (Broken rule block) same is fault = tt
-over_form g dir None inode before now Unbuilt same is fault = tt
-over_form g dir (Some x) inode before now Read same is fault = absurd fault
-over_form g dir (Some x) inode before now Memory same is fault = tt
-over_form g dir (Some x) inode before now (Broken rule block) same is fault = (rw same at fault) is (block_of g x)
-over_form g dir (Some x) inode before now Unbuilt same is fault = rw same at fault
+of_inode : (g : Geometry) (dir : ℕ) (inode : List ℕ) (blocks : ℕ → List ℕ) (rule block : ℕ) (InBlocks : Type 0) → OrBreaksInode g dir inode rule block ⊥ → OrBreaksForm g dir inode blocks rule block InBlocks
+of_inode g dir inode blocks rule block InBlocks (inl core) = inl core
+of_inode g dir inode blocks rule block InBlocks (inr (core, inl forks)) = inr (core, inl forks)
+of_inode g dir inode blocks rule block InBlocks (inr (core, inr (forks, inl lists))) = inr (core, inr (forks, inl lists))
+of_inode g dir inode blocks rule block InBlocks (inr (core, inr (forks, inr none))) = absurd none.1
 
-pub over_short : (g : Geometry) (dir : ℕ) (image : Option (List ℕ)) (inode : List ℕ) (core : CoreFields) (before now : ℕ) (fault : ForkFault) → IfSome image (λ x. inode ≡ inode_of g x dir) → IsSoundInode g dir inode core
-    → IsOfForm inode forms.Short → IsShortFault inode fault → IsFaultOver g dir image before now fault
-over_short g dir image inode core before now Read same sound form fault = absurd fault
-over_short g dir image inode core before now Memory same sound form fault = tt
-over_short g dir None inode core before now (Broken rule block) same sound form fault = tt
-over_short g dir (Some x) inode core before now (Broken rule block) same sound form fault =
+pub over_form : (B : Breaks) (g : Geometry) (dir : ℕ) (image : Option (List ℕ)) (inode : List ℕ) (before now : ℕ) (fault : ForkFault) → IfSome image (λ x. inode ≡ inode_of g x dir) → IfSome image (λ x. IsDirectory (inode_of g x dir))
+    → IsFormFault g dir inode fault → IsFaultOver B g dir image before now fault
+over_form B g dir None inode before now Read same is fault = absurd fault
+over_form B g dir None inode before now Memory same is fault = tt
+over_form B g dir None inode before now (Broken rule block) same is fault = tt
+over_form B g dir (Some x) inode before now Read same is fault = absurd fault
+over_form B g dir (Some x) inode before now Memory same is fault = tt
+over_form B g dir (Some x) inode before now (Broken rule block) same is fault = of_inode g dir (inode_of g x dir) (block_of g x) rule block (B g dir (inode_of g x dir) (block_of g x) rule block) ((rw same at fault) is)
+
+pub over_short : (B : Breaks) (g : Geometry) (dir : ℕ) (image : Option (List ℕ)) (inode : List ℕ) (core : CoreFields) (before now : ℕ) (fault : ForkFault) → IfSome image (λ x. inode ≡ inode_of g x dir) → IsSoundInode g dir inode core
+    → IsOfForm inode forms.Short → IsShortFault inode fault → IsFaultOver B g dir image before now fault
+over_short B g dir image inode core before now Read same sound form fault = absurd fault
+over_short B g dir image inode core before now Memory same sound form fault = tt
+over_short B g dir None inode core before now (Broken rule block) same sound form fault = tt
+over_short B g dir (Some x) inode core before now (Broken rule block) same sound form fault =
     rw (← same) (inr (sound.sound, inr (sound.forks, inr (sound.lists, inl (form, fault)))))
-over_short g dir image inode core before now Unbuilt same sound form fault = absurd fault
 
-pub over_size : (g : Geometry) (dir : ℕ) (image : Option (List ℕ)) (inode : List ℕ) (core : CoreFields) (block before now : ℕ) → IfSome image (λ x. inode ≡ inode_of g x dir) → IsSoundInode g dir inode core
-    → IsOfForm inode (forms.Block block) → core.size ≢ 4096 → IsFaultOver g dir image before now (Broken 15 0)
-over_size g dir None inode core block before now same sound form other = tt
-over_size g dir (Some x) inode core block before now same sound form other =
-    rw (← same) (inr (sound.sound, inr (sound.forks, inr (sound.lists, inr (in_extents inode form.0, (block, form.1, inl (refl, refl, other_size g dir inode core block sound form other)))))))
+pub over_size : (B : Breaks) (g : Geometry) (dir : ℕ) (image : Option (List ℕ)) (inode : List ℕ) (core : CoreFields) (block before now : ℕ) → IfSome image (λ x. inode ≡ inode_of g x dir) → IsSoundInode g dir inode core
+    → IsOfForm inode (forms.Block block) → core.size ≢ 4096 → IsFaultOver B g dir image before now (Broken 15 0)
+over_size B g dir None inode core block before now same sound form other = tt
+over_size B g dir (Some x) inode core block before now same sound form other =
+    rw (← same) (inr (sound.sound, inr (sound.forks, inr (sound.lists, inr (in_extents inode form.0, inl (block, form.1, inl (refl, refl, other_size g dir inode core block sound form other)))))))
 
-pub over_first : (g : Geometry) (dir : ℕ) (image : Option (List ℕ)) (inode bytes : List ℕ) (core : CoreFields) (block before now : ℕ) (fault : ForkFault) → IfSome image (λ x. inode ≡ inode_of g x dir)
-    → IfSome image (λ x. bytes ≡ block_of g x block) → IsSoundInode g dir inode core → IsOfForm inode (forms.Block block) → HasBlocksSize inode → IsFirstFault g dir block bytes fault → IsFaultOver g dir image before now fault
-over_first g dir image inode bytes core block before now Read same shown sound form size fault = absurd fault
-over_first g dir image inode bytes core block before now Memory same shown sound form size fault = tt
-over_first g dir None inode bytes core block before now (Broken rule named) same shown sound form size fault = tt
-over_first g dir (Some x) inode bytes core block before now (Broken rule named) same shown sound form size fault =
-    rw (← same) (inr (sound.sound, inr (sound.forks, inr (sound.lists, inr (in_extents inode form.0, (block, form.1, inr (size, rw shown at fault)))))))
-over_first g dir image inode bytes core block before now Unbuilt same shown sound form size fault = absurd fault
+pub over_first : (B : Breaks) (g : Geometry) (dir : ℕ) (image : Option (List ℕ)) (inode bytes : List ℕ) (core : CoreFields) (block before now : ℕ) (fault : ForkFault) → IfSome image (λ x. inode ≡ inode_of g x dir)
+    → IfSome image (λ x. bytes ≡ block_of g x block) → IsSoundInode g dir inode core → IsOfForm inode (forms.Block block) → HasBlocksSize inode → IsFirstFault g dir block bytes fault → IsFaultOver B g dir image before now fault
+over_first B g dir image inode bytes core block before now Read same shown sound form size fault = absurd fault
+over_first B g dir image inode bytes core block before now Memory same shown sound form size fault = tt
+over_first B g dir None inode bytes core block before now (Broken rule named) same shown sound form size fault = tt
+over_first B g dir (Some x) inode bytes core block before now (Broken rule named) same shown sound form size fault =
+    rw (← same) (inr (sound.sound, inr (sound.forks, inr (sound.lists, inr (in_extents inode form.0, inl (block, form.1, inr (size, rw shown at fault)))))))
 
 -- ---- what a directory holds
 
@@ -165,7 +166,7 @@ if_found name entries None finds = tt
 if_found name entries (Some entry) finds = finds
 
 pub stands_short : (g : Geometry) (dir : ℕ) (image : Option (List ℕ)) (inode name : List ℕ) (found : Option Entry) → IfSome image (λ x. inode ≡ inode_of g x dir) → IsOfForm inode forms.Short
-    → (form : ShortForm) × HasShortSize inode × ShortHolds (short_bytes_of inode) form × Finds name form.entries found → IfSome image (λ x. StandsOver g x dir name found)
+    → (form : ShortForm) × HasShortSize inode × ShortHolds (short_bytes_of inode) form × Finds name form.entries found → IfSome image (λ x. RestsOnAll g x dir name found)
 stands_short g dir None inode name found same form finds = tt
 stands_short g dir (Some x) inode name found same form finds = record {
   entries = finds.0.entries;
@@ -176,7 +177,7 @@ stands_short g dir (Some x) inode name found same form finds = record {
 }
 
 pub stands_block : (g : Geometry) (dir : ℕ) (image : Option (List ℕ)) (inode bytes name : List ℕ) (block : ℕ) (found : Option Entry) → IfSome image (λ x. inode ≡ inode_of g x dir) → IfSome image (λ x. bytes ≡ block_of g x block)
-    → IsOfForm inode (forms.Block block) → HasBlocksSize inode → StandsInFirst g dir block bytes name found → IfSome image (λ x. StandsOver g x dir name found)
+    → IsOfForm inode (forms.Block block) → HasBlocksSize inode → StandsInFirst g dir block bytes name found → IfSome image (λ x. RestsOnAll g x dir name found)
 stands_block g dir None inode bytes name block found same shown form size stands = tt
 stands_block g dir (Some x) inode bytes name block found same shown form size stands =
     let there : IsOfForm (inode_of g x dir) (forms.Block block) = rw same at form in
@@ -189,13 +190,64 @@ stands_block g dir (Some x) inode bytes name block found same shown form size st
       indexed = λ index. let both = index block stands.form there.0 there.1 holds in stands.indexed both.0 both.1;
     }
 
+pub on_all_short : (g : Geometry) (dir : ℕ) (image : Option (List ℕ)) (inode name : List ℕ) (found : Option Entry) → IfSome image (λ x. inode ≡ inode_of g x dir) → IsOfForm inode forms.Short
+    → (form : ShortForm) × HasShortSize inode × ShortHolds (short_bytes_of inode) form × Finds name form.entries found → IfSome image (λ x. StandsOver g x dir name found)
+on_all_short g dir image inode name found same form finds = IfSome_then image (stands_short g dir image inode name found same form finds) (λ x stands. inl stands)
+
+pub on_all_block : (g : Geometry) (dir : ℕ) (image : Option (List ℕ)) (inode bytes name : List ℕ) (block : ℕ) (found : Option Entry) → IfSome image (λ x. inode ≡ inode_of g x dir) → IfSome image (λ x. bytes ≡ block_of g x block)
+    → IsOfForm inode (forms.Block block) → HasBlocksSize inode → StandsInFirst g dir block bytes name found → IfSome image (λ x. StandsOver g x dir name found)
+on_all_block g dir image inode bytes name block found same shown form size stands = IfSome_then image (stands_block g dir image inode bytes name block found same shown form size stands) (λ x stands. inl stands)
+
 pub parent_short : (g : Geometry) (dir : ℕ) (image : Option (List ℕ)) (inode : List ℕ) (dotdot : ℕ) → IfSome image (λ x. inode ≡ inode_of g x dir) → (entries : List held.Entry) × HoldsShort inode entries dotdot
-    → IfSome image (λ x. (entries : List held.Entry) × EntriesStand g x dir entries dotdot)
+    → IfSome image (λ x. HasDotdot g x dir dotdot)
 parent_short g dir None inode dotdot same holds = tt
-parent_short g dir (Some x) inode dotdot same holds = (holds.0, stand_short g dir x inode holds.0 dotdot same holds.1)
+parent_short g dir (Some x) inode dotdot same holds = inl (holds.0, stand_short g dir x inode holds.0 dotdot same holds.1)
 
 pub parent_block : (g : Geometry) (dir : ℕ) (image : Option (List ℕ)) (inode bytes : List ℕ) (block dotdot : ℕ) → IfSome image (λ x. inode ≡ inode_of g x dir) → IfSome image (λ x. bytes ≡ block_of g x block)
     → IsOfForm inode (forms.Block block) → HasBlocksSize inode → (form : DataForm) × (entries : List held.Entry) × HoldsFirst g dir block bytes form entries dotdot
-    → IfSome image (λ x. (entries : List held.Entry) × EntriesStand g x dir entries dotdot)
+    → IfSome image (λ x. HasDotdot g x dir dotdot)
 parent_block g dir None inode bytes block dotdot same shown form size holds = tt
-parent_block g dir (Some x) inode bytes block dotdot same shown form size holds = (holds.1, stand_block g dir x inode bytes block holds.0 holds.1 dotdot same shown form size holds.2)
+parent_block g dir (Some x) inode bytes block dotdot same shown form size holds = inl (holds.1, stand_block g dir x inode bytes block holds.0 holds.1 dotdot same shown form size holds.2)
+
+-- ---- what is read
+
+-- what holds in any case holds where a result is Ok
+pub OnOk_all : {T E : Type 0} (r : Result T E) (P : Type 0) → P → IfOk r (λ _. P)
+OnOk_all (Ok value) P p = p
+OnOk_all (Err fault) P p = tt
+
+block_cost : (g : Geometry) (dir : ℕ) (inode : List ℕ) (blocks : ℕ → List ℕ) (block hash cost before after : ℕ) → IsOfForm inode (forms.Block block) → after ≤ before + 2 → IsLookUpCost g dir inode blocks hash cost → after ≤ before + cost
+block_cost g dir inode blocks block hash cost before after form few (inl short) = absurd (in_extents inode form.0 short.0)
+block_cost g dir inode blocks block hash cost before after form few (inr (inl one)) = omega (arith, few, one.2)
+block_cost g dir inode blocks block hash cost before after form few (inr (inr hashed)) = absurd (hashed.0.not_alone block form.1)
+
+pub list_short : (g : Geometry) (dir : ℕ) (image : Option (List ℕ)) (inode : List ℕ) (before after : ℕ) → IfSome image (λ x. inode ≡ inode_of g x dir) → IsOfForm inode forms.Short → after ≤ before + 1
+    → IfSome image (λ x. after ≤ before + list_cost (inode_of g x dir))
+list_short g dir image inode before after same form few = IfSome_then image same (λ x is. rw (← is) (let one : list_cost inode ≡ 1 = rw form refl in omega (arith, few, one)))
+
+one_only : (P : ℕ → Type 0) (k d : ℕ) → k < 1 → P 0 → P (get_or (0 ∷ []) k d)
+one_only P zero d below holds = holds
+one_only P (suc k) d below holds = absurd (omega (arith, below))
+
+one_mapped : (runs : List Run) → IsSome (mapped runs 0) → 1 ≤ mapped_count runs
+one_mapped runs some = few_of_mapped runs (0 ∷ []) (λ i j d below within. absurd (omega (arith, below, within))) (λ k d below. one_only (λ n. IsSome (mapped runs n)) k d below some)
+
+pub list_block : (g : Geometry) (dir : ℕ) (image : Option (List ℕ)) (inode : List ℕ) (block before after : ℕ) → IfSome image (λ x. inode ≡ inode_of g x dir) → IsOfForm inode (forms.Block block) → after ≤ before + 2
+    → IfSome image (λ x. after ≤ before + list_cost (inode_of g x dir))
+list_block g dir image inode block before after same form few = IfSome_then image same
+    (λ x is. rw (← is) (let cost : list_cost inode ≡ 1 + mapped_count (data_runs_of inode) = rw form.0 refl in
+    let some = one_mapped (data_runs_of inode) (rw form.1.first refl) in
+    omega (arith, few, cost, some)))
+
+pub look_up_block : (g : Geometry) (dir : ℕ) (image : Option (List ℕ)) (inode : List ℕ) (block hash before after : ℕ) → IfSome image (λ x. inode ≡ inode_of g x dir) → IsOfForm inode (forms.Block block) → after ≤ before + 2
+    → IfSome image (λ x. (cost : ℕ) → HasLookUpCost g x dir hash cost → after ≤ before + cost)
+look_up_block g dir image inode block hash before after same form few = IfSome_then image same (λ x is cost costs. block_cost g dir (inode_of g x dir) (block_of g x) block hash cost before after (rw is at form) few costs)
+
+short_cost : (g : Geometry) (dir : ℕ) (inode : List ℕ) (blocks : ℕ → List ℕ) (hash cost before after : ℕ) → IsOfForm inode forms.Short → after ≤ before + 1 → IsLookUpCost g dir inode blocks hash cost → after ≤ before + cost
+short_cost g dir inode blocks hash cost before after form few (inl short) = omega (arith, few, short.1)
+short_cost g dir inode blocks hash cost before after form few (inr (inl one)) = absurd (in_extents inode one.0 form)
+short_cost g dir inode blocks hash cost before after form few (inr (inr hashed)) = absurd (in_extents inode hashed.0.is_extents form)
+
+pub look_up_short : (g : Geometry) (dir : ℕ) (image : Option (List ℕ)) (inode : List ℕ) (hash before after : ℕ) → IfSome image (λ x. inode ≡ inode_of g x dir) → IsOfForm inode forms.Short → after ≤ before + 1
+    → IfSome image (λ x. (cost : ℕ) → HasLookUpCost g x dir hash cost → after ≤ before + cost)
+look_up_short g dir image inode hash before after same form few = IfSome_then image same (λ x is cost costs. short_cost g dir (inode_of g x dir) (block_of g x) hash cost before after (rw is at form) few costs)

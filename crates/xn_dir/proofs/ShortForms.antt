@@ -10,7 +10,7 @@ use Rattle.xn_bytes.specs.Directory.{HasShortSize, short_bytes_of, HasNames}
 use Rattle.xn_bytes.specs.DirectoryForms.{HoldsShort}
 use Rattle.xn_short.specs.Naming.{IsFirstNamed}
 use Rattle.xn_inode.specs.declared.fork_fault.ForkFault.{ForkFault}
-use Rattle.xn_inode.specs.declared.fork_fault.ForkFault.TheVariants.{Read, Memory, Broken, Unbuilt}
+use Rattle.xn_inode.specs.declared.fork_fault.ForkFault.TheVariants.{Read, Memory, Broken}
 use Rattle.xn_dir.specs.Faults.{IsRule, IsShortFault}
 
 pub holds_short : (inode : List ℕ) (short : ShortForm) (entries : List held.Entry) (dotdot : ℕ) → number_at 1 5 inode ≡ local_format → HasShortSize inode × ShortHolds (short_bytes_of inode) short → entries ≡ short.entries → dotdot ≡ short.parent
@@ -29,7 +29,6 @@ pub breaks_names : (inode : List ℕ) (short : ShortForm) (Fact : Type 0) (fault
 breaks_names inode short Fact Read form part is = is
 breaks_names inode short Fact Memory form part is = is
 breaks_names inode short Fact (Broken rule block) form part is = inr (form.0, inr ((short, form.1), (is.0, is.1, (short, form.1, λ names. is.2 (part names)))))
-breaks_names inode short Fact Unbuilt form part is = is
 
 -- what a look-up finds is among the entries, with the name
 pub found_among : (name : List ℕ) (all : List held.Entry) (entry : held.Entry) → IsFirstNamed name all entry → Contains all (record { name = name; ino = entry.ino; kind = entry.kind; position = entry.position })

@@ -4,7 +4,8 @@ use Rattle.std.specs.Prelude.{count_by, filter, not}
 use Rattle.std.proofs.lemmas.List.Sums.{sum_by-cons, length-filter}
 use Rattle.std.proofs.lemmas.List.Filters.{length-filter_both}
 use Rattle.xn_bytes.specs.DataBlock.{DataForm, LeafEntry}
-use Rattle.xn_bytes.specs.DirectoryForms.{AreSorted, HasTail, is_stale}
+use Rattle.xn_bytes.specs.DirectoryForms.{AreSorted, HasTail}
+use Rattle.xn_bytes.specs.HashedTree.{is_stale}
 
 -- no hash is below the one in front of it, the first of them not below `least`
 abbrev pub RiseFrom : ℕ → List LeafEntry → Type 0

@@ -7,6 +7,7 @@ use Rattle.xn_bytes.specs.Superblock.{Geometry}
 use Rattle.xn_bytes.specs.Inode.{CoreFields, CoreHolds, HasCore, HasBothForks, local_format, extents_format}
 use Rattle.xn_bytes.specs.Extents.{Run}
 use Rattle.xn_bytes.specs.DirectoryForms.{HasExtentLists, IsBlockForm, data_runs_of}
+use Rattle.xn_bytes.specs.LeafForms.{IsInBlocks}
 use Rattle.xn_dir.specs.declared.form.Form.{Form}
 use Rattle.xn_dir.specs.declared.form.Form.TheVariants as forms
 
@@ -21,10 +22,11 @@ pub record IsSoundInode (g : Geometry) (dir : ℕ) (inode : List ℕ) (core : Co
   pub fields : CoreHolds inode core
   pub lists : HasExtentLists g inode
 
--- short form, or block form with its one block
+-- short form, block form with its one block, or leaf or node form
 abbrev pub IsOfForm : List ℕ → Form → Type 0
 IsOfForm inode forms.Short = number_at 1 5 inode ≡ local_format
 IsOfForm inode (forms.Block block) = (number_at 1 5 inode ≡ extents_format) × IsBlockForm (data_runs_of inode) block
+IsOfForm inode forms.Hashed = IsInBlocks inode
 
 -- the one block that a list of extents maps, where it maps file block 0 alone
 abbrev pub IsOnlyBlock : List Run → Option ℕ → Type 0

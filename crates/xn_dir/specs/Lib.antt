@@ -1,5 +1,12 @@
 pub mod Inodes
+pub mod Blocks
 pub mod Faults
 pub mod Listings
 pub mod Finding
 pub mod FirstBlocks
+pub mod Hashed
+pub mod SingleLeaves
+pub mod Compare
+pub mod Bests
+pub mod Indexed
+pub mod Gathering

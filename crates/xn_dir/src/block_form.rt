@@ -9,17 +9,17 @@ ghost use Rattle.xn_bytes.specs.Directory.{HasNames};
 ghost use Rattle.xn_bytes.specs.DirectoryForms.{AreSorted, HasDots, HoldsFirst, HasTail, IsIndexOf};
 ghost use Rattle.xn_data.specs.Standing.{ArePlaced};
 ghost use Rattle.xn_dir.specs.Faults.{IsRule, IsFirstFault};
-ghost use Rattle.xn_dir.specs.FirstBlocks.{IsDots, IsOwn};
 ghost use Rattle.xn_dir.specs.Listings.{entry_of};
 ghost use Rattle.xn_dir.specs.Finding.{AllMiss, StandsInFirst};
 
+use crate::data::{is_own, take_dots};
 use crate::entry::Entry;
 use crate::form::broken;
 use crate::index::{find, has_tail, is_indexed};
 use crate::listing::{Listed, check_once, entry_to_list};
 use std::alloc::Global;
-use xn_bytes::{Kind, Name};
-use xn_data::{DataBlock, DataEntries, DataEntry};
+use xn_bytes::Name;
+use xn_data::{DataBlock, DataEntries};
 use xn_inode::{ForkFault, Super};
 
 /// The first block of a directory in block form: what it holds, its entries behind dot and dotdot, and the dotdot.
@@ -103,7 +103,7 @@ fn first_block<'a>(
         Ok(held) => held,
         Err(_) => return Err(broken),
     };
-    if !is_own(geometry, dir, block, &held) {
+    if !is_own(geometry, dir, true, block, &held) {
         return Err(broken);
     }
     let mut entries = held.entries();
@@ -115,39 +115,6 @@ fn first_block<'a>(
         }),
         None => Err(broken),
     }
-}
-
-/// Whether a data block is of block form, in the place that it names, with the filesystem's uuid and its owner.
-fn is_own(geometry: &Super, dir: u64, block: u64, found: &DataBlock<'_>) -> bool
-    requires place { IsBlock geometry.now block }
-    ensures { IsTrue result ↔ IsOwn geometry.now dir block found.now }
-{
-    found.is_block_form()
-        && found.place() == geometry.sector_of_block(block)
-        && found.owner() == dir
-        && found.uuid() == geometry.meta_uuid().as_slice()
-}
-
-/// Takes dot and dotdot from the front of the entries, and answers dotdot's inode.
-fn take_dots(entries: &mut DataEntries<'_>) -> Option<u64>
-    ensures { MatchOption result
-        ((others : List held.Entry) (dotdot : ℕ) → ¬ HasDots entries.old others dotdot)
-        (λ dotdot. HasDots entries.old entries.new dotdot) }
-{
-    let dot = entries.next()?;
-    let parent = entries.next()?;
-    if is_dots(&dot, b".", 64) && is_dots(&parent, b"..", 80) {
-        Some(parent.ino)
-    } else {
-        None
-    }
-}
-
-/// Whether an entry of kind directory has this name and stands there.
-fn is_dots(entry: &DataEntry<'_>, name: &[u8], position: u64) -> bool
-    ensures { IsTrue result ↔ IsDots entry.now.name.now entry.now.kind entry.now.position name.now position }
-{
-    entry.name == name && entry.kind == Kind::Dir && entry.position == position
 }
 
 /// The entries with their names, of which each has one.

@@ -5,20 +5,23 @@ ghost use Rattle.xn_bytes.specs.Superblock.{IsBlock, IsInode};
 ghost use Rattle.xn_bytes.specs.Blocks.{block_of};
 ghost use Rattle.xn_bytes.specs.Inode.{inode_of};
 ghost use Rattle.xn_bytes.specs.Directory.{HasNames};
-ghost use Rattle.xn_bytes.specs.Entries as held;
-ghost use Rattle.xn_bytes.specs.DirectoryForms.{DirHolds, EntriesStand, HasBlocksSize};
-ghost use Rattle.xn_bytes.specs.DirectoryRules.{IsBuilt};
+ghost use Rattle.xn_bytes.specs.DirectoryHolds.{DirHolds, HasDotdot};
+ghost use Rattle.xn_bytes.specs.Hashes.{name_hash_of};
+ghost use Rattle.xn_bytes.specs.Costs.{HasLookUpCost, list_cost};
+ghost use Rattle.xn_bytes.specs.DirectoryForms.{HasBlocksSize};
+ghost use Rattle.xn_bytes.specs.DirectoryRules.{HasInode};
 ghost use Rattle.xn_inode.specs.Frames.{StoreStays};
 ghost use Rattle.xn_dir.specs.Inodes.{IsDirectory, IsSoundInode, IsOfForm};
-ghost use Rattle.xn_dir.specs.Faults.{IsFaultOf};
+ghost use Rattle.xn_dir.specs.Faults.{IsFaultOf, IsSeenFaultOf};
 ghost use Rattle.xn_dir.specs.Listings.{entry_of};
 ghost use Rattle.xn_dir.specs.Finding.{FindsOver, StandsOver};
 ghost use Rattle.xn_dir.specs.declared.form.Form.TheVariants as forms;
 
 use crate::entry::Entry;
 use crate::form::{Form, broken, form_of};
+use crate::hashed_fork::hashed_fork;
 use crate::listing::Listed;
-use crate::{block_form, short_form};
+use crate::{block_form, hashed_form, hashed_list, short_form};
 use std::alloc::Global;
 use xn_bytes::Name;
 use xn_inode::{Core, ForkFault, Store};
@@ -31,9 +34,10 @@ const BLOCK_BYTES: usize = 4096;
 pub struct Dir;
 
 impl Dir {
-    /// What a name stands for in the directory of this inode; None where no entry has the name. In block form it is found
-    /// by the hash of the name, so None rests on the leaf entries: it is sure where they are sorted and those of the entries.
-    /// An entry that is found always stands there. It reads the inode and, in block form, the block.
+    /// What a name stands for in the directory of this inode; None where no entry has the name. In the forms with blocks it
+    /// is found by the hash of the name, so None rests on the leaf entries: it is sure where they are those of the entries.
+    /// An entry that is found always stands there. It reads the inode; in block form the block; in leaf and node form the
+    /// path to the leaf, further leaves as long as they end with the hash, and a data block for each leaf entry with it.
     pub fn lookup<S: Store>(
         alloc: Global,
         store: &mut S,
@@ -45,10 +49,10 @@ impl Dir {
         requires directory { IfSome (S.image store.old) (λ x. IsDirectory (inode_of (S.shape store.old) x dir)) }
         ensures stands { IfOk result (λ found. IfSome (S.image store.old) (λ x. StandsOver (S.shape store.old) x dir name.now found)) }
         ensures found { IfOk result (λ found. IfSome (S.image store.old) (λ x. FindsOver (S.shape store.old) x dir name.now found)) }
-        ensures built { IfOk result (λ _. IfSome (S.image store.old) (λ x. IsBuilt (S.shape store.old) (inode_of (S.shape store.old) x dir) dir)) }
-        ensures fault { IfErr result (IsFaultOf S.Store dir store.old store.new) }
+        ensures inode { IfOk result (λ _. IfSome (S.image store.old) (λ x. HasInode (S.shape store.old) (inode_of (S.shape store.old) x dir) dir)) }
+        ensures fault { IfErr result (IsSeenFaultOf S.Store dir store.old store.new) }
         ensures stays { StoreStays S.Store store.old store.new }
-        ensures fetches { S.fetches store.new ≤ S.fetches store.old + 2 }
+        ensures fetches { IfOk result (λ _. IfSome (S.image store.old) (λ x. (cost : ℕ) → HasLookUpCost (S.shape store.old) x dir (name_hash_of name.now) cost → S.fetches store.new ≤ S.fetches store.old + cost)) }
     {
         let mut inode = [0; INODE_BYTES];
         let (core, form) = read_form(alloc, store, dir, &mut inode)?;
@@ -59,21 +63,25 @@ impl Dir {
                 read_block(store, dir, &inode, &core, block, &mut bytes)?;
                 block_form::lookup(store.geometry(), dir, block, &bytes, name)
             }
+            Form::Hashed => {
+                let fork = hashed_fork(alloc, store.geometry(), dir, &core, &inode)?;
+                hashed_form::lookup(alloc, store, &fork, name)
+            }
         }
     }
 
-    /// The entries of the directory of this inode in rising position, without dot and dotdot. It reads the inode and, in
-    /// block form, the block.
+    /// The entries of the directory of this inode in rising position, without dot and dotdot. It reads the inode and, but
+    /// for the short form, each block that is mapped once.
     pub fn list<S: Store>(alloc: Global, store: &mut S, dir: u64) -> Result<Vec<Listed>, ForkFault>
         requires whole { S.IsWhole store.old }
         requires place { IsInode (S.shape store.old) dir }
         requires directory { IfSome (S.image store.old) (λ x. IsDirectory (inode_of (S.shape store.old) x dir)) }
         ensures holds { IfOk result (λ listed. IfSome (S.image store.old) (λ x. (dotdot : ℕ) × DirHolds (S.shape store.old) x dir (map entry_of listed.items) dotdot)) }
         ensures names { IfOk result (λ listed. HasNames (map entry_of listed.items)) }
-        ensures built { IfOk result (λ _. IfSome (S.image store.old) (λ x. IsBuilt (S.shape store.old) (inode_of (S.shape store.old) x dir) dir)) }
+        ensures inode { IfOk result (λ _. IfSome (S.image store.old) (λ x. HasInode (S.shape store.old) (inode_of (S.shape store.old) x dir) dir)) }
         ensures fault { IfErr result (IsFaultOf S.Store dir store.old store.new) }
         ensures stays { StoreStays S.Store store.old store.new }
-        ensures fetches { S.fetches store.new ≤ S.fetches store.old + 2 }
+        ensures fetches { IfOk result (λ _. IfSome (S.image store.old) (λ x. S.fetches store.new ≤ S.fetches store.old + list_cost (inode_of (S.shape store.old) x dir))) }
     {
         let mut inode = [0; INODE_BYTES];
         let (core, form) = read_form(alloc, store, dir, &mut inode)?;
@@ -84,17 +92,22 @@ impl Dir {
                 read_block(store, dir, &inode, &core, block, &mut bytes)?;
                 block_form::list(alloc, store.geometry(), dir, block, &bytes)
             }
+            Form::Hashed => {
+                let fork = hashed_fork(alloc, store.geometry(), dir, &core, &inode)?;
+                hashed_list::list(alloc, store, &fork)
+            }
         }
     }
 
-    /// The inode that the directory of this inode has as its dotdot. It reads the inode and, in block form, the block.
+    /// The inode that the directory of this inode has as its dotdot. It reads the inode and, but for the short
+    /// form, the first block.
     pub fn parent<S: Store>(alloc: Global, store: &mut S, dir: u64) -> Result<u64, ForkFault>
         requires whole { S.IsWhole store.old }
         requires place { IsInode (S.shape store.old) dir }
         requires directory { IfSome (S.image store.old) (λ x. IsDirectory (inode_of (S.shape store.old) x dir)) }
-        ensures parent { IfOk result (λ dotdot. IfSome (S.image store.old) (λ x. (entries : List held.Entry) × EntriesStand (S.shape store.old) x dir entries dotdot)) }
-        ensures built { IfOk result (λ _. IfSome (S.image store.old) (λ x. IsBuilt (S.shape store.old) (inode_of (S.shape store.old) x dir) dir)) }
-        ensures fault { IfErr result (IsFaultOf S.Store dir store.old store.new) }
+        ensures parent { IfOk result (λ dotdot. IfSome (S.image store.old) (λ x. HasDotdot (S.shape store.old) x dir dotdot)) }
+        ensures inode { IfOk result (λ _. IfSome (S.image store.old) (λ x. HasInode (S.shape store.old) (inode_of (S.shape store.old) x dir) dir)) }
+        ensures fault { IfErr result (IsSeenFaultOf S.Store dir store.old store.new) }
         ensures stays { StoreStays S.Store store.old store.new }
         ensures fetches { S.fetches store.new ≤ S.fetches store.old + 2 }
     {
@@ -106,6 +119,10 @@ impl Dir {
                 let mut bytes = [0; BLOCK_BYTES];
                 read_block(store, dir, &inode, &core, block, &mut bytes)?;
                 block_form::parent(store.geometry(), dir, block, &bytes)
+            }
+            Form::Hashed => {
+                let fork = hashed_fork(alloc, store.geometry(), dir, &core, &inode)?;
+                hashed_form::parent(store, &fork)
             }
         }
     }
@@ -124,8 +141,9 @@ fn read_form<S: Store>(
     ensures bytes { IfOk result (λ _. IfSome (S.image store.old) (λ x. inode.new ≡ inode_of (S.shape store.old) x dir)) }
     ensures sound { IfOk result (λ found. IsSoundInode (S.shape store.old) dir inode.new found.0) }
     ensures form { IfOk result (λ found. IsOfForm inode.new found.1) }
-    ensures built { IfOk result (λ _. IfSome (S.image store.old) (λ x. IsBuilt (S.shape store.old) (inode_of (S.shape store.old) x dir) dir)) }
+    ensures inode { IfOk result (λ _. IfSome (S.image store.old) (λ x. HasInode (S.shape store.old) (inode_of (S.shape store.old) x dir) dir)) }
     ensures fault { IfErr result (IsFaultOf S.Store dir store.old store.new) }
+    ensures seen { IfErr result (IsSeenFaultOf S.Store dir store.old store.new) }
     ensures stays { StoreStays S.Store store.old store.new }
     ensures fetches { S.fetches store.new ≤ S.fetches store.old + 1 }
 {
@@ -150,6 +168,7 @@ fn read_block<S: Store>(
     ensures place { IfOk result (λ _. IsBlock (S.shape store.new) block) }
     ensures size { IfOk result (λ _. HasBlocksSize inode.now) }
     ensures fault { IfErr result (IsFaultOf S.Store dir store.old store.new) }
+    ensures seen { IfErr result (IsSeenFaultOf S.Store dir store.old store.new) }
     ensures stays { StoreStays S.Store store.old store.new }
     ensures fetches { S.fetches store.new ≤ S.fetches store.old + 1 }
 {

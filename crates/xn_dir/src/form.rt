@@ -11,13 +11,15 @@ ghost use Rattle.xn_dir.specs.Faults.{IsFormFault, IsRule};
 use std::alloc::Global;
 use xn_inode::{Core, EXTENTS_FORMAT, ExtentFault, Extents, ForkFault, LOCAL_FORMAT, Super};
 
-/// The forms of a directory that are read.
+/// The forms of a directory.
 #[derive(Clone, Copy, Debug, PartialEq, Eq)]
 pub(crate) enum Form {
     /// The entries stand in the inode.
     Short,
     /// They stand in one block, with the leaf entries behind them.
     Block { block: u64 },
+    /// Leaf or node form: they stand in data blocks, and the leaf entries in other blocks.
+    Hashed,
 }
 
 /// A rule that an inode breaks, of those that name no block.
@@ -50,7 +52,7 @@ pub(crate) fn form_of(
     let extents = extents_of(alloc, geometry, core.data_fork(inode), core.data_extents())?;
     match only_block(&extents) {
         Some(block) => Ok((core, Form::Block { block })),
-        None => Err(ForkFault::Unbuilt),
+        None => Ok((core, Form::Hashed)),
     }
 }
 
@@ -89,7 +91,7 @@ fn check_attribute_fork(
 }
 
 /// Rule 13 of one fork: its extents.
-fn extents_of(
+pub(crate) fn extents_of(
     alloc: Global,
     geometry: &Super,
     fork: &[u8],

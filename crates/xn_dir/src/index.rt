@@ -95,8 +95,8 @@ pub(crate) fn find(
     Ok(None)
 }
 
-/// The entry that stands in a place. It goes over the entries, since bytes within one can look like another.
-fn standing_at<'a>(first: &DataBlock<'a>, position: u64) -> Option<DataEntry<'a>>
+/// The entry that stands in a place of the block. It goes over the entries, since bytes within one can look like another.
+pub(crate) fn standing_at<'a>(first: &DataBlock<'a>, position: u64) -> Option<DataEntry<'a>>
     ensures { MatchOption result
         (¬ HasPlace (entries_among first.now.regions) position)
         (λ entry. Contains (entries_among first.now.regions) (entry_of entry) × (entry.position ≡ position)) }

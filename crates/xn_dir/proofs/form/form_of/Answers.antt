@@ -1,5 +1,5 @@
 use Rattle.std.proofs.lemmas.Result.{err_from_is_err_and}
-use Rattle.xn_dir.proofs.InodeFaults.{breaks_lists, is_unbuilt, other_format}
+use Rattle.xn_dir.proofs.InodeFaults.{breaks_lists, is_hashed, other_format}
 use Rattle.xn_dir.proofs.form.form_of.Goals as goal
 
 pub returns-in_err-check_attribute_fork-clause-fault :
@@ -13,10 +13,10 @@ pub returns-then-format-ne-EXTENTS_FORMAT-clause-fault :
     goal.returns-then-format-ne-EXTENTS_FORMAT-clause-fault
 returns-then-format-ne-EXTENTS_FORMAT-clause-fault c =
     let core = c.in_ok-core.ensures.ok in
-    rw c.broken.ensures (λ is blocks. absurd (other_format c.args.geometry.now c.args.dir c.args.inode.now c.in_ok-core.core c.data_format-format.result core.1 core.2 c.data_format-format.ensures c.if-format-eq-LOCAL_FORMAT.false c.if-format-ne-EXTENTS_FORMAT.true is))
+    rw c.broken.ensures (λ is. absurd (other_format c.args.geometry.now c.args.dir c.args.inode.now c.in_ok-core.core c.data_format-format.result core.1 core.2 c.data_format-format.ensures c.if-format-eq-LOCAL_FORMAT.false c.if-format-ne-EXTENTS_FORMAT.true is))
 
-pub returns-clause-fault : goal.returns-clause-fault
-returns-clause-fault c =
+pub returns-clause-form : goal.returns-clause-form
+returns-clause-form c =
     let core = c.in_ok-core.ensures.ok in
-    is_unbuilt c.args.geometry.now c.args.dir c.args.inode.now c.in_ok-core.core c.data_format-format.result c.data_extents.result c.data_fork.result.now c.in_ok-extents.extents core.0 core.1 core.2
-    c.data_format-format.ensures c.if-format-ne-EXTENTS_FORMAT.false c.data_fork.ensures c.data_extents.ensures c.in_ok-extents.ensures c.in_ok-check_attribute_fork.ensures c.in-None.ensures
+    is_hashed c.args.inode.now c.in_ok-core.core c.args.geometry.now c.data_format-format.result c.data_extents.result c.data_fork.result.now c.in_ok-extents.extents core.2
+    c.data_format-format.ensures c.if-format-ne-EXTENTS_FORMAT.false c.data_fork.ensures c.data_extents.ensures c.in_ok-extents.ensures c.in-None.ensures

@@ -1,7 +1,7 @@
 use Rattle.std.proofs.Common.{sym, subst, ◌∙◌}
 use Rattle.xn_bytes.specs.DirectoryForms.{leaf_of}
 use Rattle.xn_data.specs.Viewed as viewed
-use Rattle.xn_dir.proofs.Leaves.{Seeks, seeks_first, seeks_on}
+use Rattle.xn_dir.proofs.Seeking.{Seeks, seeks_first, seeks_on}
 use Rattle.xn_dir.proofs.index.has_leaf.Goals as goal
 
 pub loop-address-init : goal.loop-address-init

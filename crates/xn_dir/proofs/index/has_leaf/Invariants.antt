@@ -1,6 +1,6 @@
 use Rattle.xn_bytes.specs.DirectoryForms.{leaf_of}
 use Rattle.xn_data.specs.Viewed.{entry_of}
-use Rattle.xn_dir.proofs.Leaves.{Seeks}
+use Rattle.xn_dir.proofs.Seeking.{Seeks}
 use Rattle.xn_dir.proofs.index.has_leaf.Given as goal
 
 abbrev pub invariant-loop-address : goal.invariant-loop-address

@@ -1,0 +1,38 @@
+-- The leaf entries and bests of a directory in leaf or node form, against its data blocks.
+use Rattle.std.specs.Prelude.{◌≡◌, ◌≢◌, ◌⊎◌, ℕ, ◌+◌, ◌≤◌, List, length, map, All, AllPairs, IsSome}
+use Rattle.xn_bytes.specs.Extents.{Run, mapped}
+use Rattle.xn_bytes.specs.DataBlock.{DataForm, LeafEntry}
+use Rattle.xn_bytes.specs.HashedTree.{leaf_file_block}
+use Rattle.xn_bytes.specs.DirectoryForms.{leaf_of}
+use Rattle.xn_bytes.specs.LeafForms.{DirFork, Placed, AreData, HasLeaves, BreaksLeaves, AreLeavesOf, HasBests, all_entries, with_first}
+use Rattle.xn_bytes.specs.DirectoryRules.{OrBreaks}
+use Rattle.xn_dir.specs.declared.bests.Best.{Best}
+use Rattle.xn_dir.specs.Bests.{noted}
+
+-- the leaf entries that these data blocks ask for, and their bests
+pub record AreGathered (d : DirFork) (first : DataForm) (others : List Placed) (leaves : List LeafEntry) (bests : List Best) : Type 0 where
+  pub data_blocks : AreData d (with_first first others)
+  pub leaves_are : leaves ≡ map leaf_of (all_entries first others)
+  pub bests_are : map noted (with_first first others) ≡ bests
+
+-- rules 18 to 20 hold
+pub record HasIndex (d : DirFork) (first : DataForm) (others : List Placed) : Type 0 where
+  pub live : List LeafEntry
+  pub leaves : HasLeaves d live
+  pub index : AreLeavesOf live (all_entries first others)
+  pub bests : HasBests d (with_first first others)
+
+-- or one of them is the first that doesn't
+abbrev pub BreaksIndex : DirFork → DataForm → List Placed → ℕ → ℕ → Type 0
+BreaksIndex d first others rule block =
+    ((rule ≡ 18) × BreaksLeaves d block)
+    ⊎ ((live : List LeafEntry) × HasLeaves d live
+    × OrBreaks rule block 19 0 (AreLeavesOf live (all_entries first others)) ((rule ≡ 20) × (block ≡ 0) × ¬ HasBests d (with_first first others)))
+
+-- at most one fetch for each of these blocks of leaves, nodes and free-index blocks
+pub record FetchesIndex (runs : List Run) (before now : ℕ) : Type 0 where
+  pub read : List ℕ
+  pub once : AllPairs (λ a b. a ≢ b) read
+  pub behind : All (λ file_block. leaf_file_block ≤ file_block) read
+  pub there : All (λ file_block. IsSome (mapped runs file_block)) read
+  pub fetches : now ≤ before + length read
