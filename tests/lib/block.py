@@ -51,7 +51,6 @@ def cases():
         "mixed": names_of_lengths(1, [1 + k * k % 20 for k in range(92)] + [20 + 5 * k for k in range(9)]),
         "long": names_of_lengths(2, [200, 211, 254, 255, 255, 222, 233, 244]),
         "alike": alike(),
-        "many": names_of_lengths(3, 300 * [20]),
     }
 
 

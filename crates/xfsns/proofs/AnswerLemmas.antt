@@ -1,19 +1,27 @@
 -- From a command's result to the answer over the image, and from the words that were read to any that they are.
-use Rattle.std.proofs.Common.{◌≡◌, ℕ, ◌+◌, ◌*◌, ◌≤◌, List, length, codes, Option, Some, None, inl, inr, ap, subst, arith}
-use Rattle.std.specs.Prelude.{IfSome}
+use Rattle.std.proofs.Common.{◌≡◌, ℕ, ◌+◌, ◌*◌, ◌≤◌, List, length, codes, Option, Some, None, Result, Ok, Err, inl, inr, sym, ap, subst, ◌∙◌, arith}
+use Rattle.std.specs.Prelude.{IfSome, IfOk, decimal}
+use Rattle.std.proofs.lemmas.Fmt.{decimal_injective}
 use Rattle.xn_bytes.specs.declared.status.Status.{Status}
+use Rattle.xn_bytes.specs.declared.status.Status.TheVariants.{Done, Image}
 use Rattle.xn_bytes.specs.Escapes.{escaped}
 use Rattle.xn_bytes.specs.Superblock.{Geometry}
-use Rattle.xn_bytes.specs.Words.{AsksList, AsksResolve}
+use Rattle.xn_bytes.specs.Words.{AsksList, AsksResolve, AsksNothing}
 use Rattle.xn_bytes.specs.Paths.{parts_of}
 use Rattle.xn_bytes.specs.NameSpace.{End}
-use Rattle.xn_bytes.specs.Outcome.{Answers, Reads}
+use Rattle.xn_bytes.specs.Outcome.{Answers, Reads, geometry_in}
+use Rattle.xn_bytes.specs.Inode.{inode_of}
+use Rattle.xn_bytes.specs.Costs.{list_cost}
 use Rattle.xn_bytes.proofs.EscapeLemmas.{one_text}
 use Rattle.xn_text.specs.declared.words.Words.{Words}
 use Rattle.xn_text.specs.declared.words.Words.TheVariants as commands
 use Rattle.xn_text.specs.Asked.{AsksFor}
+use Rattle.xn_text.specs.declared.reply.Reply.{Reply}
+use Rattle.xn_ns.specs.declared.fault.SeeFault.{SeeFault}
+use Rattle.xn_ns.specs.declared.fault.SeeFault.TheVariants as see
+use Rattle.xn_ns.specs.Ends.{end_of}
 use Rattle.xfsns.specs.Home.{FindsSuper}
-use Rattle.xfsns.specs.Answer.{EndsWith, IsAnswerTo, ReadsFor, most_reads}
+use Rattle.xfsns.specs.Answer.{EndsWith, IsAnswerTo, ReadsFor, ReadsAtMost, ListReads, ResolveReads}
 
 -- the answer to an end that a command has over the image whose superblock was found
 pub over_image : (E : Geometry → List ℕ → End → Type 0) (image : Option (List ℕ)) (g : Geometry) (ended : Option End) (status : Status) (text : List ℕ)
@@ -45,16 +53,57 @@ one_path words path other a b =
     let same : escaped path ≡ escaped other = cc in
     one_text path other a.bytes b.bytes same
 
+one_number : (words : List (List ℕ)) (ino other : ℕ) → AsksList words ino → AsksList words other → ino ≡ other
+one_number words ino other a b =
+    let form = a.form in
+    let form_too = b.form in
+    let same : decimal ino ≡ decimal other = cc in
+    decimal_injective ino other a.small b.small same
+
+pub asks_something : (words : List (List ℕ)) (command : Words) → AsksFor words command → AsksNothing words → ⊥
+asks_something words (commands.List ino) asks none = none.no_list ino asks
+asks_something words (commands.Resolve path) asks none = none.no_resolve path asks
+
+-- ---- what is read
+
+list_later : (extra first between now : ℕ) → between ≤ first + 1 → now ≤ between + 1 + extra → now ≤ first + 1 + 1 + extra
+list_later extra first between now one few = omega (arith, one, few)
+
+walk_later : (extra first between now : ℕ) → between ≤ first + 1 → now ≤ between + extra → now ≤ first + 1 + extra
+walk_later extra first between now one few = omega (arith, one, few)
+
+later : (command : Words) (g : Geometry) (x : List ℕ) (first between now : ℕ) → between ≤ first + 1 → ReadsAtMost command g x between now → ReadsAtMost command g x (first + 1) now
+later (commands.List ino) g x first between now one few = list_later (list_cost (inode_of g x ino)) first between now one few
+later (commands.Resolve path) g x first between now one few = λ most bound. walk_later ((1 + most) * length (parts_of path)) first between now one (few most bound)
+
+-- what a command reads over the image whose superblock was found, where it is answered as done
+pub reads_over_image : (command : Words) (image : Option (List ℕ)) (g : Geometry) (ended : Result Reply SeeFault) (status : Status) (text : List ℕ) (first between now : ℕ)
+    → FindsSuper image (Some g) → between ≤ first + 1 → IfOk ended (λ _. IfSome image (λ x. ReadsAtMost command g x between now)) → IsAnswerTo (end_of ended) status text
+    → status ≡ Done → IfSome image (λ x. ReadsAtMost command (geometry_in x) x (first + 1) now)
+reads_over_image command None g ended status text first between now found one few answer done = tt
+reads_over_image command (Some x) g (Ok reply) status text first between now found one few answer done =
+    later command (geometry_in x) x first between now one (subst (λ (h : Geometry). ReadsAtMost command h x between now) found.1 few)
+reads_over_image command (Some x) g (Err see.Read) status text first between now found one few answer done = absurd answer
+reads_over_image command (Some x) g (Err see.Memory) status text first between now found one few answer done = absurd answer
+reads_over_image command (Some x) g (Err (see.Broken rule inode block)) status text first between now found one few answer done =
+    let is : Image ≡ Done = sym answer.0 ∙ done in
+    absurd cc
+
+two_more : (extra before now : ℕ) → now ≤ before + 1 + 1 + extra → now ≤ before + 2 + extra
+two_more extra before now few = omega (arith, few)
+
+list_reads : (image : Option (List ℕ)) (ino before now : ℕ) → IfSome image (λ x. ReadsAtMost (commands.List ino) (geometry_in x) x (before + 1) now) → ListReads image ino before now
+list_reads None ino before now few = tt
+list_reads (Some x) ino before now few = two_more (list_cost (inode_of (geometry_in x) x ino)) before now few
+
 -- what the command that was read reads at most is what the words allow
-pub reads_for : (words : List (List ℕ)) (command : Words) (before now : ℕ)
-    → AsksFor words command → now ≤ before + 1 + most_reads command → ReadsFor words before now
-reads_for words (commands.List ino) before now asks few = record {
-  list = λ other also. omega arith;
+pub reads_for : (words : List (List ℕ)) (command : Words) (image : Option (List ℕ)) (before now : ℕ)
+    → AsksFor words command → IfSome image (λ x. ReadsAtMost command (geometry_in x) x (before + 1) now) → ReadsFor words image before now
+reads_for words (commands.List ino) image before now asks few = record {
+  list = λ other also. subst (λ (n : ℕ). ListReads image n before now) (one_number words ino other asks also) (list_reads image ino before now few);
   resolve = λ path also. absurd (not_both words ino path asks also);
-  nothing = λ none. absurd (none.no_list ino asks);
 }
-reads_for words (commands.Resolve path) before now asks few = record {
+reads_for words (commands.Resolve path) image before now asks few = record {
   list = λ ino also. absurd (not_both words ino path also asks);
-  resolve = λ other also. subst (λ (p : List ℕ). now ≤ before + 1 + 3 * length (parts_of p)) (one_path words path other asks also) few;
-  nothing = λ none. absurd (none.no_resolve path asks);
+  resolve = λ other also. subst (λ (p : List ℕ). ResolveReads image p before now) (one_path words path other asks also) few;
 }

@@ -2,9 +2,9 @@
 use Rattle.std.proofs.Common.{◌≡◌, ℕ, ◌≤◌, List, ◌++◌, take, Option, Some, None, inl, inr, sym, subst, ◌∙◌, ap, arith}
 use Rattle.std.specs.Prelude.{MatchOption, option_map, ◌⊎◌}
 use Rattle.xn_bytes.specs.declared.status.Status.{Status}
-use Rattle.xn_bytes.specs.declared.status.Status.TheVariants.{Done, Usage, Image, ReadFault, SayFault, Memory, Unbuilt}
+use Rattle.xn_bytes.specs.declared.status.Status.TheVariants.{Done, Usage, Image, ReadFault, SayFault, Memory}
 use Rattle.xn_bytes.specs.Causes.{Rose}
-use Rattle.xn_bytes.specs.NameSpace.{End, Says, Breaks, Beyond}
+use Rattle.xn_bytes.specs.NameSpace.{End, Says, Breaks}
 use Rattle.xn_bytes.specs.Reading.{ListEnds, ResolveEnds}
 use Rattle.xn_bytes.specs.Outcome.{Answers, Reads, end_status, Outside, Tells, Outcome, FailsToSay}
 use Rattle.xn_bytes.specs.Superblock.{Geometry}
@@ -19,12 +19,10 @@ IsAnswered Image = Unit {0}
 IsAnswered ReadFault = ⊥
 IsAnswered SayFault = ⊥
 IsAnswered Memory = ⊥
-IsAnswered Unbuilt = Unit {0}
 
 end_is_answered : (end : End) → IsAnswered (end_status end)
 end_is_answered (Says reply) = tt
 end_is_answered (Breaks inode rule block) = tt
-end_is_answered Beyond = tt
 
 reads_answered : (E : Geometry → List ℕ → End → Type 0) (image : Option (List ℕ)) (status : Status) (text : List ℕ) → Reads E image status text → IsAnswered status
 reads_answered E image status text reads = elim reads [
@@ -52,7 +50,6 @@ told_whole words before now Image text answer is whole = (text, answer, whole)
 told_whole words before now ReadFault text answer is whole = absurd is
 told_whole words before now SayFault text answer is whole = absurd is
 told_whole words before now Memory text answer is whole = absurd is
-told_whole words before now Unbuilt text answer is whole = (text, answer, whole)
 
 -- An answer over the image, told from a moment at which nothing was told yet.
 pub is_outcome : (words : List (List ℕ)) (before now : Outside) (status : Status) (text : List ℕ) (told : Option (List ℕ)) (faults : ℕ) (result : Status)
@@ -75,3 +72,9 @@ is_outcome words before now status text told faults result answer same later end
       } in
       subst (Outcome words before now) (sym front.0) fails
 ]
+
+-- what is done was answered as done
+pub told_done : (told now : Option (List ℕ)) (before later : ℕ) (status result : Status) (text : List ℕ)
+    → ((result ≡ status) × (now ≡ option_map (λ t. t ++ text) told)) ⊎ ((result ≡ SayFault) × Rose before later × TellsFront told now text) → result ≡ Done → status ≡ Done
+told_done told now before later status result text ends done =
+    elim ends [ inl whole ↦ sym whole.0 ∙ done | inr front ↦ let is : SayFault ≡ Done = sym front.0 ∙ done in absurd cc ]

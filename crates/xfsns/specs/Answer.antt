@@ -1,15 +1,18 @@
 -- What the commands are, how their ends are answered, and what a fault of reading comes from.
-use Rattle.std.specs.Prelude.{◌≡◌, ℕ, ◌+◌, ◌*◌, ◌≤◌, List, length, Option, IsSomeAnd}
+use Rattle.std.specs.Prelude.{◌≡◌, ℕ, ◌+◌, ◌*◌, ◌≤◌, List, length, Option, IfSome, IsSomeAnd}
 use Rattle.xn_bytes.specs.declared.status.Status.{Status}
 use Rattle.xn_bytes.specs.Causes.{Rose}
 use Rattle.xn_bytes.specs.Superblock.{Geometry}
-use Rattle.xn_bytes.specs.Words.{AsksList, AsksResolve, AsksNothing}
+use Rattle.xn_bytes.specs.Words.{AsksList, AsksResolve}
 use Rattle.xn_bytes.specs.Paths.{parts_of}
 use Rattle.xn_bytes.specs.NameSpace.{End}
+use Rattle.xn_bytes.specs.Inode.{inode_of}
+use Rattle.xn_bytes.specs.Costs.{list_cost}
 use Rattle.xn_bytes.specs.Reading.{ListEnds, ResolveEnds}
-use Rattle.xn_bytes.specs.Outcome.{AsksToRead, end_status, end_text}
+use Rattle.xn_bytes.specs.Outcome.{AsksToRead, end_status, end_text, geometry_in}
 use Rattle.xn_text.specs.declared.words.Words.{Words}
 use Rattle.xn_text.specs.declared.words.Words.TheVariants as commands
+use Rattle.xn_ns.specs.Costs.{CostsAtMost}
 use Rattle.xfsns.specs.declared.answer.Fault.{Fault}
 use Rattle.xfsns.specs.declared.answer.Fault.TheVariants as faults
 
@@ -20,16 +23,24 @@ abbrev pub EndsWith : Words → Geometry → List ℕ → End → Type 0
 EndsWith (commands.List ino) g = ListEnds g ino
 EndsWith (commands.Resolve path) g = ResolveEnds g path
 
--- how often it reads at most, once the superblock is read
-abbrev pub most_reads : Words → ℕ
-most_reads (commands.List ino) = 3
-most_reads (commands.Resolve path) = 3 * length (parts_of path)
+-- What a command that has a reply reads over an image, once the superblock is read: for a list a look at the inode, and what
+-- the list costs; for a walk, by a bound on each look-up, one look and one look-up for each part.
+abbrev pub ReadsAtMost : Words → Geometry → List ℕ → ℕ → ℕ → Type 0
+ReadsAtMost (commands.List ino) g image before now = now ≤ before + 1 + list_cost (inode_of g image ino)
+ReadsAtMost (commands.Resolve path) g image before now = (most : ℕ) → CostsAtMost g image most → now ≤ before + (1 + most) * length (parts_of path)
 
--- The reads of a call, by its words: that of the superblock, three for a list, and three for each part of a path.
-pub record ReadsFor (words : List (List ℕ)) (before now : ℕ) : Type 0 where
-  pub list : (ino : ℕ) → AsksList words ino → now ≤ before + 4
-  pub resolve : (path : List ℕ) → AsksResolve words path → now ≤ before + 1 + 3 * length (parts_of path)
-  pub nothing : AsksNothing words → now ≡ before
+-- the same with the read of the superblock, where an image is told
+abbrev pub ListReads : Option (List ℕ) → ℕ → ℕ → ℕ → Type 0
+ListReads image ino before now = IfSome image (λ x. now ≤ before + 2 + list_cost (inode_of (geometry_in x) x ino))
+
+abbrev pub ResolveReads : Option (List ℕ) → List ℕ → ℕ → ℕ → Type 0
+ResolveReads image path before now =
+    IfSome image (λ x. (most : ℕ) → CostsAtMost (geometry_in x) x most → now ≤ before + 1 + (1 + most) * length (parts_of path))
+
+-- The reads of a call that is done, by its words.
+pub record ReadsFor (words : List (List ℕ)) (image : Option (List ℕ)) (before now : ℕ) : Type 0 where
+  pub list : (ino : ℕ) → AsksList words ino → ListReads image ino before now
+  pub resolve : (path : List ℕ) → AsksResolve words path → ResolveReads image path before now
 
 -- ---- the answers
 

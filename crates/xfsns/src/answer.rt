@@ -1,13 +1,15 @@
 //! What is answered to the words: a status, and the text to be told.
 
-ghost use Rattle.std.specs.Prelude.{◌≡◌, ◌+◌, ◌≤◌, IfOk, IfErr, Err, map, string_bytes};
+ghost use Rattle.std.specs.Prelude.{◌≡◌, ◌+◌, IfOk, IfErr, IfSome, Err, map, string_bytes};
 ghost use Rattle.xn_bytes.specs.Causes.{Rose};
-ghost use Rattle.xn_bytes.specs.Outcome.{Answers, Reads};
+ghost use Rattle.xn_bytes.specs.Outcome.{Answers, Reads, geometry_in};
 ghost use Rattle.xn_bytes.specs.Replies.{reply_text};
+ghost use Rattle.xn_bytes.specs.Words.{AsksNothing};
+ghost use Rattle.xn_bytes.specs.declared.status.Status.TheVariants.{Done};
 ghost use Rattle.xn_machine.specs.Frames.{MachineStays};
 ghost use Rattle.xn_ns.specs.Ends.{end_of};
 ghost use Rattle.xn_text.specs.Viewed.{reply_of};
-ghost use Rattle.xfsns.specs.Answer.{EndsWith, IsAnswerTo, ReadsFor, most_reads, HasReadCause};
+ghost use Rattle.xfsns.specs.Answer.{EndsWith, IsAnswerTo, ReadsFor, ReadsAtMost, HasReadCause};
 ghost use Rattle.xfsns.specs.declared.answer.Fault.TheVariants.{Read, Memory};
 
 use crate::home::{ask_image, read_super};
@@ -15,7 +17,7 @@ use std::alloc::Global;
 use xn_bytes::{Memory as OutOfMemory, Status};
 use xn_machine::{Failed, Machine};
 use xn_ns::SeeFault;
-use xn_text::{Reply, Words, WordsFault, image_line, unbuilt_line, usage_line};
+use xn_text::{Reply, Words, WordsFault, image_line, usage_line};
 
 /// A status, and the text to be told with it.
 #[derive(Debug, Drop)]
@@ -56,7 +58,8 @@ pub fn answer_words<M: Machine>(
     machine: &mut M,
 ) -> Result<Answer, Fault>
     ensures stays { MachineStays M.Machine machine.old machine.new }
-    ensures reads { ReadsFor (map string_bytes words.now) (M.reads machine.old) (M.reads machine.new) }
+    ensures reads { IfOk result (λ answer. answer.status ≡ Done → ReadsFor (map string_bytes words.now) (M.image machine.old) (M.reads machine.old) (M.reads machine.new)) }
+    ensures reads_nothing { AsksNothing (map string_bytes words.now) → M.reads machine.new ≡ M.reads machine.old }
     ensures answer { IfOk result (λ answer. Answers (map string_bytes words.now) (M.image machine.old) answer.status answer.text.items) }
     ensures cause { IfErr result (HasReadCause (map string_bytes words.now) (M.read_faults machine.old) (M.read_faults machine.new)) }
 {
@@ -77,7 +80,7 @@ fn answer_command<M: Machine>(
     command: &Words,
 ) -> Result<Answer, Fault>
     ensures stays { MachineStays M.Machine machine.old machine.new }
-    ensures reads { M.reads machine.new ≤ M.reads machine.old + 1 + most_reads command.now }
+    ensures reads { IfOk result (λ answer. answer.status ≡ Done → IfSome (M.image machine.old) (λ x. ReadsAtMost command.now (geometry_in x) x (M.reads machine.old + 1) (M.reads machine.new))) }
     ensures answer { IfOk result (λ answer. Reads (EndsWith command.now) (M.image machine.old) answer.status answer.text.items) }
     ensures cause { IfErr result (λ fault. fault ≡ Read → Rose (M.read_faults machine.old) (M.read_faults machine.new)) }
 {
@@ -104,10 +107,6 @@ fn answer_of(alloc: Global, ended: Result<Reply, SeeFault>) -> Result<Answer, Fa
         Err(SeeFault::Broken { rule, inode, block }) => Ok(Answer {
             status: Status::Image,
             text: image_line(alloc, rule, inode, block)?,
-        }),
-        Err(SeeFault::Unbuilt) => Ok(Answer {
-            status: Status::Unbuilt,
-            text: unbuilt_line(alloc)?,
         }),
         Err(SeeFault::Read) => Err(Fault::Read),
         Err(SeeFault::Memory) => Err(Fault::Memory),

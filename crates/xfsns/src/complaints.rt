@@ -22,7 +22,7 @@ pub fn explain<R: Eprint>(
         }
         Status::SayFault => say_failure(rt, "write", "standard output", telling),
         Status::Memory => say(rt, "out of memory\n"),
-        Status::Done | Status::Image | Status::Unbuilt => {}
+        Status::Done | Status::Image => {}
     }
 }
 

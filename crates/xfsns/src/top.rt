@@ -1,8 +1,12 @@
 //! The program's one call: words, machine and sources in, a status out.
 
-ghost use Rattle.std.specs.Prelude.{◌≡◌, ℕ, ◌+◌, ◌*◌, ◌≤◌, List, length, map, string_bytes};
-ghost use Rattle.xn_bytes.specs.Outcome.{Outcome, outside_of};
+ghost use Rattle.std.specs.Prelude.{◌≡◌, ℕ, ◌+◌, ◌*◌, ◌≤◌, List, IfSome, length, map, string_bytes};
+ghost use Rattle.xn_bytes.specs.Outcome.{Outcome, geometry_in, outside_of};
 ghost use Rattle.xn_bytes.specs.Paths.{parts_of};
+ghost use Rattle.xn_bytes.specs.Inode.{inode_of};
+ghost use Rattle.xn_bytes.specs.Costs.{list_cost};
+ghost use Rattle.xn_bytes.specs.declared.status.Status.TheVariants.{Done};
+ghost use Rattle.xn_ns.specs.Costs.{CostsAtMost};
 ghost use Rattle.xn_bytes.specs.Words.{AsksList, AsksResolve, AsksNothing};
 ghost use Rattle.xfsns.specs.Top.{TellsOrFails};
 
@@ -13,7 +17,7 @@ use xn_machine::{Machine, Source};
 
 /// Answers the words after the program's name over the machine's image, and tells the answer on its output.
 ///
-/// `list IMAGE MANIFEST INO` lists a directory in short or block form. `resolve IMAGE MANIFEST PATH` walks a path from the
+/// `list IMAGE MANIFEST INO` lists a directory in any of its forms. `resolve IMAGE MANIFEST PATH` walks a path from the
 /// root and tells the inode to which it leads. The two files are the machine's and the manifest's; neither the manifest nor
 /// the script is read.
 pub fn xfsns<M: Machine, F: Source, S: Source>(
@@ -37,9 +41,10 @@ pub fn xfsns<M: Machine, F: Source, S: Source>(
     ensures write_faults { M.write_faults machine.old ≤ M.write_faults machine.new }
     ensures say_faults { M.say_faults machine.old ≤ M.say_faults machine.new }
 
-    // The superblock is read once at most; a list reads three times more at most, and so does each part of a path.
-    ensures reads_list { (ino : ℕ) → AsksList (map string_bytes words.now) ino → M.reads machine.new ≤ M.reads machine.old + 4 }
-    ensures reads_resolve { (path : List ℕ) → AsksResolve (map string_bytes words.now) path → M.reads machine.new ≤ M.reads machine.old + 1 + 3 * length (parts_of path) }
+    // Where all is done, a list reads the superblock, the inode twice, and the directory's blocks once each; a path reads
+    // the superblock and, for each part, the inode and what a look-up costs.
+    ensures reads_list { (ino : ℕ) → AsksList (map string_bytes words.now) ino → result ≡ Done → IfSome (M.image machine.old) (λ x. M.reads machine.new ≤ M.reads machine.old + 2 + list_cost (inode_of (geometry_in x) x ino)) }
+    ensures reads_resolve { (path : List ℕ) → AsksResolve (map string_bytes words.now) path → result ≡ Done → IfSome (M.image machine.old) (λ x. (most : ℕ) → CostsAtMost (geometry_in x) x most → M.reads machine.new ≤ M.reads machine.old + 1 + (1 + most) * length (parts_of path)) }
     ensures reads_nothing { AsksNothing (map string_bytes words.now) → M.reads machine.new ≡ M.reads machine.old }
 
     // The sources are not read.

@@ -5,23 +5,22 @@ use Rattle.std.proofs.lemmas.Result.{IfErr-weaker}
 use Rattle.xn_bytes.specs.Causes.{Rose}
 use Rattle.xn_bytes.specs.Superblock.{Geometry}
 use Rattle.xn_bytes.specs.Inode.{inode_of}
+use Rattle.xn_bytes.specs.DirectoryRules.{BreaksBlocks}
 use Rattle.xn_bytes.specs.NameSpace.{End}
 use Rattle.xn_bytes.specs.Reading.{ListEnds, ListsDirectory, IsAttached}
 use Rattle.xn_inode.specs.declared.fork_fault.ForkFault.{ForkFault}
-use Rattle.xn_inode.specs.declared.fork_fault.ForkFault.TheVariants.{Read, Memory, Broken, Unbuilt}
+use Rattle.xn_inode.specs.declared.fork_fault.ForkFault.TheVariants.{Read, Memory, Broken}
 use Rattle.xn_dir.specs.Faults.{IsFaultOver}
 use Rattle.xn_text.specs.declared.reply.Reply.{Reply}
 use Rattle.xn_ns.specs.declared.fault.SeeFault.{SeeFault}
 use Rattle.xn_ns.specs.Ends.{Answered, see_fault_in, end_of}
 
 -- a fault of the directory
-pub directory_fault : (g : Geometry) (dir : ℕ) (image : Option (List ℕ)) (before now : ℕ) (fault : ForkFault) → IsFaultOver g dir image before now fault → Answered (ListsDirectory g dir) image before now (Err (see_fault_in dir fault))
+pub directory_fault : (g : Geometry) (dir : ℕ) (image : Option (List ℕ)) (before now : ℕ) (fault : ForkFault) → IsFaultOver BreaksBlocks g dir image before now fault → Answered (ListsDirectory g dir) image before now (Err (see_fault_in dir fault))
 directory_fault g dir image before now Read rose = record { ends = tt; cause = λ read. rose }
 directory_fault g dir image before now Memory free = record { ends = tt; cause = λ read. absurd cc }
 directory_fault g dir None before now (Broken rule block) broken = record { ends = tt; cause = λ read. absurd cc }
-directory_fault g dir (Some x) before now (Broken rule block) broken = record { ends = inr (inl (rule, block, refl, broken)); cause = λ read. absurd cc }
-directory_fault g dir None before now Unbuilt unbuilt = record { ends = tt; cause = λ read. absurd cc }
-directory_fault g dir (Some x) before now Unbuilt unbuilt = record { ends = inl (refl, unbuilt); cause = λ read. absurd cc }
+directory_fault g dir (Some x) before now (Broken rule block) broken = record { ends = inl (rule, block, refl, broken); cause = λ read. absurd cc }
 
 -- the end of the directory's list is that of the inode's
 attached_end : (g : Geometry) (ino : ℕ) (image : Option (List ℕ)) (end : Option End) → IfSome image (λ x. IsAttached g (inode_of g x ino) ino)

@@ -6,3 +6,4 @@ pub mod MapLists
 pub mod PathParts
 pub mod PartsTaken
 pub mod WalksOn
+pub mod Fetches

@@ -46,8 +46,7 @@ pub listed_by_the_map : (g : Geometry) (image : List ℕ) (names : NameMap) (dir
 listed_by_the_map g image names dir lines has (inl (is, none)) = absurd cc
 listed_by_the_map g image names dir lines has (inr (inl (rule, is, breaks))) = absurd cc
 listed_by_the_map g image names dir lines has (inr (inr (inl (is, other)))) = absurd cc
-listed_by_the_map g image names dir lines has (inr (inr (inr (attached, inl (is, unbuilt))))) = absurd cc
-listed_by_the_map g image names dir lines has (inr (inr (inr (attached, inr (inl (rule, block, is, breaks)))))) = absurd cc
-listed_by_the_map g image names dir lines has (inr (inr (inr (attached, inr (inr (sorted, is, lists)))))) =
+listed_by_the_map g image names dir lines has (inr (inr (inr (attached, inl (rule, block, is, breaks))))) = absurd cc
+listed_by_the_map g image names dir lines has (inr (inr (inr (attached, inr (sorted, is, lists))))) =
     let same : lines ≡ map line_of sorted = cc in
     subst (AreLinesOfMap (names dir)) (sym same) (lines_of_the_map g image names dir sorted has attached.directory lists)

@@ -6,7 +6,7 @@ use Rattle.xn_bytes.specs.Superblock.{Geometry}
 use Rattle.xn_bytes.specs.Directory.{IsLive}
 use Rattle.xn_bytes.specs.Inode.{inode_of}
 use Rattle.xn_bytes.specs.Replies.{Reply}
-use Rattle.xn_bytes.specs.NameSpace.{Says, Breaks, Beyond, Place, NameMap, Step, Ends, Goes, Walks, TakesInMap, step_to}
+use Rattle.xn_bytes.specs.NameSpace.{Says, Breaks, Place, NameMap, Step, Ends, Goes, Walks, TakesInMap, step_to}
 use Rattle.xn_bytes.specs.Reading.{HasMap, TakesInImage, IsNoDirectory, IsDirectoryIn}
 use Rattle.xn_ns.proofs.NamesOfMap.{as_the_map_says}
 
@@ -14,7 +14,6 @@ use Rattle.xn_ns.proofs.NamesOfMap.{as_the_map_says}
 abbrev IsAnswer : Step → Type 0
 IsAnswer (Ends (Says reply)) = Unit {0}
 IsAnswer (Ends (Breaks inode rule block)) = ⊥
-IsAnswer (Ends Beyond) = ⊥
 IsAnswer (Goes place) = Unit {0}
 
 -- where the kind is that of a directory, the inode is one of the image
@@ -32,9 +31,8 @@ taken g image names here part step has placed answers (inl (is, inl other)) = in
 taken g image names here part step has placed answers (inl (is, inr (dir, none))) = absurd (has_parts g image here.ino (placed dir) none)
 taken g image names here part step has placed answers (inr (inl (rule, is, dir, breaks))) = absurd (subst IsAnswer is answers)
 taken g image names here part step has placed answers (inr (inr (dir, directory, inl (no_name, is)))) = inr (inl (dir, no_name, is))
-taken g image names here part step has placed answers (inr (inr (dir, directory, inr (name, inl (is, unbuilt))))) = absurd (subst IsAnswer is answers)
-taken g image names here part step has placed answers (inr (inr (dir, directory, inr (name, inr (inl (rule, block, is, breaks)))))) = absurd (subst IsAnswer is answers)
-taken g image names here part step has placed answers (inr (inr (dir, directory, inr (name, inr (inr (found, is, stands)))))) =
+taken g image names here part step has placed answers (inr (inr (dir, directory, inr (name, inl (rule, block, is, breaks))))) = absurd (subst IsAnswer is answers)
+taken g image names here part step has placed answers (inr (inr (dir, directory, inr (name, inr (found, is, stands))))) =
     inr (inr (dir, name, is ∙ ap step_to (as_the_map_says g image names here.ino part found has directory stands)))
 
 stands_for : (found : Option Place) (next : Place) → Goes next ≡ step_to found → found ≡ Some next

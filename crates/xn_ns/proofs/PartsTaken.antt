@@ -6,9 +6,9 @@ use Rattle.xn_bytes.specs.Causes.{Rose}
 use Rattle.xn_bytes.specs.Names.{IsName}
 use Rattle.xn_bytes.specs.Superblock.{Geometry}
 use Rattle.xn_bytes.specs.Inode.{inode_of}
-use Rattle.xn_bytes.specs.DirectoryRules.{IsBuilt}
+use Rattle.xn_bytes.specs.DirectoryRules.{HasInode, FailsBlocks}
 use Rattle.xn_bytes.specs.NameSpace.{Place as Reached, Step as Taken, part_error}
-use Rattle.xn_bytes.specs.Reading.{TakesPart, TakesInImage, IsDirectoryIn}
+use Rattle.xn_bytes.specs.Reading.{TakesPart, TakesInImage, IsDirectoryIn, RestsOnAll, RestsOnOne}
 use Rattle.xn_inode.specs.declared.fork_fault.ForkFault.{ForkFault}
 use Rattle.xn_inode.specs.declared.fork_fault.ForkFault.TheVariants as forks
 use Rattle.xn_dir.specs.declared.entry.Entry.{Entry}
@@ -26,6 +26,9 @@ use Rattle.xn_ns.specs.declared.fault.SeeFault.TheVariants as see
 use Rattle.xn_ns.specs.Ends.{see_fault_in}
 use Rattle.xn_ns.specs.Steps.{IsTaken, step_of, taken_of}
 
+abbrev reached : Entry → Reached
+reached entry = record { ino = entry.ino; kind = entry.kind }
+
 abbrev IsPartTaken : Geometry → Option (List ℕ) → ℕ → List ℕ → ℕ → ℕ → Result Step SeeFault → Type 0
 IsPartTaken g image dir part before now result = IsTaken (λ x. TakesPart g x dir part) image before now result
 
@@ -38,54 +41,57 @@ not_a_name g image dir part before now (Err fault) which =
     let memory : IsPartTaken g image dir part before now (Err see.Memory) = record { takes = tt; cause = λ is. absurd cc } in
     subst (λ (error : SeeFault). IsPartTaken g image dir part before now (Err error)) (sym which) memory
 
+-- what stands in the directory stands there for the walk
+rests_on_found : (g : Geometry) (x : List ℕ) (dir : ℕ) (part : List ℕ) (entry : Entry) → StandsOver g x dir part (Some entry) → RestsOnAll g x dir part (Some (reached entry)) ⊎ RestsOnOne g x dir part (Some (reached entry))
+rests_on_found g x dir part entry (inl all) =
+    inl (record {
+      entries = all.entries;
+      dotdot = all.dotdot;
+      stand = all.stand;
+      there = (entry.position, all.there);
+      indexed = λ is. (entry.position, all.indexed is);
+    })
+rests_on_found g x dir part entry (inr (blocks, stands)) = inr (blocks, (entry.position, stands))
+
+rests_on_none : (g : Geometry) (x : List ℕ) (dir : ℕ) (part : List ℕ) → StandsOver g x dir part None → RestsOnAll g x dir part None ⊎ RestsOnOne g x dir part None
+rests_on_none g x dir part (inl all) = inl (record { entries = all.entries; dotdot = all.dotdot; stand = all.stand; there = tt; indexed = all.indexed })
+rests_on_none g x dir part (inr (blocks, nothing)) = inr (blocks, tt)
+
 -- an entry has the name
-pub entry_found : (g : Geometry) (image : Option (List ℕ)) (dir : ℕ) (part : List ℕ) (before now : ℕ) (entry : Entry) → IsName part → IfSome image (λ x. IsBuilt g (inode_of g x dir) dir) → IfSome image (λ x. FindsOver g x dir part (Some entry))
+pub entry_found : (g : Geometry) (image : Option (List ℕ)) (dir : ℕ) (part : List ℕ) (before now : ℕ) (entry : Entry) → IsName part → IfSome image (λ x. HasInode g (inode_of g x dir) dir) → IfSome image (λ x. FindsOver g x dir part (Some entry))
     → IfSome image (λ x. StandsOver g x dir part (Some entry)) → IsPartTaken g image dir part before now (Ok (steps.Goes (record { ino = entry.ino; kind = entry.kind })))
-entry_found g None dir part before now entry name built finds stands = record { takes = tt; cause = tt }
-entry_found g (Some x) dir part before now entry name built finds stands = record {
+entry_found g None dir part before now entry name inode finds stands = record { takes = tt; cause = tt }
+entry_found g (Some x) dir part before now entry name inode finds stands = record {
   takes = inr (
     name,
-    inr (inr (
-      Some (record { ino = entry.ino; kind = entry.kind }),
+    inr (
+      Some (reached entry),
       refl,
       record {
-        built = built;
-        entries = stands.entries;
-        dotdot = stands.dotdot;
-        stand = stands.stand;
-        there = (entry.position, stands.there);
-        indexed = λ is. (entry.position, stands.indexed is);
+        inode = inode;
+        rests = rests_on_found g x dir part entry stands;
         among = λ entries dotdot holds. (entry.position, finds entries dotdot holds);
       },
-    )),
+    ),
   );
   cause = tt;
 }
 
 -- none has it
-pub none_found : (g : Geometry) (image : Option (List ℕ)) (dir : ℕ) (part : List ℕ) (before now : ℕ) → IsName part → IfSome image (λ x. IsBuilt g (inode_of g x dir) dir) → IfSome image (λ x. FindsOver g x dir part None)
+pub none_found : (g : Geometry) (image : Option (List ℕ)) (dir : ℕ) (part : List ℕ) (before now : ℕ) → IsName part → IfSome image (λ x. HasInode g (inode_of g x dir) dir) → IfSome image (λ x. FindsOver g x dir part None)
     → IfSome image (λ x. StandsOver g x dir part None) → IsPartTaken g image dir part before now (Ok (steps.Refused ENOENT))
-none_found g None dir part before now name built finds stands = record { takes = tt; cause = tt }
-none_found g (Some x) dir part before now name built finds stands = record {
-  takes = inr (
-    name,
-    inr (inr (
-      None,
-      refl,
-      record { built = built; entries = stands.entries; dotdot = stands.dotdot; stand = stands.stand; there = tt; indexed = stands.indexed; among = finds },
-    )),
-  );
+none_found g None dir part before now name inode finds stands = record { takes = tt; cause = tt }
+none_found g (Some x) dir part before now name inode finds stands = record {
+  takes = inr (name, inr (None, refl, record { inode = inode; rests = rests_on_none g x dir part stands; among = finds }));
   cause = tt;
 }
 
 -- the look-up gave up
-pub look_up_fails : (g : Geometry) (image : Option (List ℕ)) (dir : ℕ) (part : List ℕ) (before now : ℕ) (fault : ForkFault) → IsName part → IsFaultOver g dir image before now fault → IsPartTaken g image dir part before now (Err (see_fault_in dir fault))
+pub look_up_fails : (g : Geometry) (image : Option (List ℕ)) (dir : ℕ) (part : List ℕ) (before now : ℕ) (fault : ForkFault) → IsName part → IsFaultOver FailsBlocks g dir image before now fault → IsPartTaken g image dir part before now (Err (see_fault_in dir fault))
 look_up_fails g image dir part before now forks.Read name rose = record { takes = tt; cause = λ _. rose }
 look_up_fails g image dir part before now forks.Memory name free = record { takes = tt; cause = λ is. absurd cc }
 look_up_fails g None dir part before now (forks.Broken rule block) name breaks = record { takes = tt; cause = λ is. absurd cc }
-look_up_fails g (Some x) dir part before now (forks.Broken rule block) name breaks = record { takes = inr (name, inr (inl (rule, block, refl, breaks))); cause = λ is. absurd cc }
-look_up_fails g None dir part before now forks.Unbuilt name unbuilt = record { takes = tt; cause = λ is. absurd cc }
-look_up_fails g (Some x) dir part before now forks.Unbuilt name unbuilt = record { takes = inr (name, inl (refl, unbuilt)); cause = λ is. absurd cc }
+look_up_fails g (Some x) dir part before now (forks.Broken rule block) name breaks = record { takes = inr (name, inl (rule, block, refl, breaks)); cause = λ is. absurd cc }
 
 -- ---- from a place
 

@@ -1,11 +1,11 @@
 -- A walk of a path, part by part: what the ends from where it is say of the whole path.
-use Rattle.std.proofs.Common.{◌≡◌, ℕ, suc, ◌+◌, ◌*◌, length, List, [], ◌∷◌, ◌++◌, Option, Some, None, Ok, Err, refl, sym, ap, subst, ◌∙◌, append_assoc, arith, inl, inr}
+use Rattle.std.proofs.Common.{◌≡◌, ℕ, List, [], ◌∷◌, ◌++◌, Option, Some, None, Ok, Err, refl, sym, ap, subst, ◌∙◌, append_assoc, inl, inr}
 use Rattle.std.specs.Prelude.{◌≤◌, IfSome}
 use Rattle.xn_bytes.specs.Superblock.{Geometry}
 use Rattle.xn_bytes.specs.Paths.{parts_of}
 use Rattle.xn_bytes.specs.declared.errno.Errno.{Errno}
 use Rattle.xn_bytes.specs.Replies.{ErrorOf, EntryOf}
-use Rattle.xn_bytes.specs.NameSpace.{Place as Reached, Step as Taken, End, Says, Breaks, Beyond, Ends, Goes, Walks, Reaches}
+use Rattle.xn_bytes.specs.NameSpace.{Place as Reached, Step as Taken, End, Says, Breaks, Ends, Goes, Walks, Reaches}
 use Rattle.xn_bytes.specs.Reading.{ResolveEnds, TakesInImage, root_place}
 use Rattle.xn_text.specs.declared.reply.Reply.TheVariants as replies
 use Rattle.xn_ns.specs.declared.walk.Place.{Place}
@@ -67,10 +67,3 @@ given_up g image path here rest part behind first before now see.Memory leads pa
 given_up g None path here rest part behind first before now (see.Broken rule inode block) leads parts later taken = record { ends = tt; cause = λ is. absurd cc }
 given_up g (Some x) path here rest part behind first before now (see.Broken rule inode block) leads parts later taken =
     record { ends = ends_here g x path here rest part behind (Breaks inode rule block) leads parts taken.takes; cause = λ is. absurd cc }
-given_up g None path here rest part behind first before now see.Unbuilt leads parts later taken = record { ends = tt; cause = λ is. absurd cc }
-given_up g (Some x) path here rest part behind first before now see.Unbuilt leads parts later taken =
-    record { ends = ends_here g x path here rest part behind Beyond leads parts taken.takes; cause = λ is. absurd cc }
-
--- at most three fetches for each part that was taken
-pub fetched : (rest part behind : List ℕ) (first before now all : ℕ) → parts_of rest ≡ part ∷ parts_of behind → now ≤ before + 3 → before + 3 * length (parts_of rest) ≤ first + 3 * all → now + 3 * length (parts_of behind) ≤ first + 3 * all
-fetched rest part behind first before now all parts more so_far = let one : length (parts_of rest) ≡ suc (length (parts_of behind)) = ap length parts in omega (arith, one, more, so_far)

@@ -1,7 +1,7 @@
 -- How the reading commands end, by their results.
 use Rattle.std.specs.Prelude.{◌≡◌, ℕ, List, Option, Some, None, IfSome, Result, Ok, Err, IfErr}
 use Rattle.xn_bytes.specs.Causes.{Rose}
-use Rattle.xn_bytes.specs.NameSpace.{End, Says, Breaks, Beyond}
+use Rattle.xn_bytes.specs.NameSpace.{End, Says, Breaks}
 use Rattle.xn_inode.specs.declared.store.StoreFault.{StoreFault}
 use Rattle.xn_inode.specs.declared.store.StoreFault.TheVariants as store
 use Rattle.xn_inode.specs.declared.fork_fault.ForkFault.{ForkFault}
@@ -21,14 +21,12 @@ abbrev pub see_fault_in : ℕ → ForkFault → SeeFault
 see_fault_in dir fork.Read = see.Read
 see_fault_in dir fork.Memory = see.Memory
 see_fault_in dir (fork.Broken rule block) = see.Broken rule dir block
-see_fault_in dir fork.Unbuilt = see.Unbuilt
 
 -- what a fault tells of the image; the outside's and want of memory tell nothing
 abbrev pub fault_end : SeeFault → Option End
 fault_end see.Read = None
 fault_end see.Memory = None
 fault_end (see.Broken rule inode block) = Some (Breaks inode rule block)
-fault_end see.Unbuilt = Some Beyond
 
 -- how a command ended
 abbrev pub end_of : Result Reply SeeFault → Option End

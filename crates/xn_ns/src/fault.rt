@@ -15,8 +15,6 @@ pub enum SeeFault {
     /// An inode that was looked at breaks this rule of the checker. Rules of blocks name the block by its number on the
     /// device, all others block 0.
     Broken { rule: u8, inode: u64, block: u64 },
-    /// A directory that was looked at is in leaf or node form, which this version doesn't read.
-    Unbuilt,
 }
 
 impl From<StoreFault> for SeeFault {
@@ -58,6 +56,5 @@ pub(crate) fn of_directory(fault: ForkFault, dir: u64) -> SeeFault
             inode: dir,
             block,
         },
-        ForkFault::Unbuilt => SeeFault::Unbuilt,
     }
 }

@@ -5,6 +5,7 @@ ghost use Rattle.xn_bytes.specs.Reading.{ListEnds, ListsDirectory, IsAttached};
 ghost use Rattle.xn_bytes.specs.Superblock.{IsInode};
 ghost use Rattle.xn_bytes.specs.Inode.{inode_of};
 ghost use Rattle.xn_bytes.specs.Directory.{HasNames};
+ghost use Rattle.xn_bytes.specs.Costs.{list_cost};
 ghost use Rattle.xn_inode.specs.Frames.{StoreStays};
 ghost use Rattle.xn_dir.specs.Listings.{entry_of};
 ghost use Rattle.xn_text.specs.Viewed.{line_of};
@@ -26,7 +27,7 @@ pub fn list<S: Store>(alloc: Global, store: &mut S, ino: u64) -> Result<Reply, S
     requires whole { S.IsWhole store.old }
     ensures answered { Answered (ListEnds (S.shape store.old) ino) (S.image store.old) (S.faults store.old) (S.faults store.new) result }
     ensures stays { StoreStays S.Store store.old store.new }
-    ensures fetches { S.fetches store.new ≤ S.fetches store.old + 3 }
+    ensures fetches { IfOk result (λ _. IfSome (S.image store.old) (λ x. S.fetches store.new ≤ S.fetches store.old + 1 + list_cost (inode_of (S.shape store.old) x ino))) }
 {
     match look_at(store, ino)? {
         Sight::Gone | Sight::Detached => Ok(Reply::Error(Errno::ENOENT)),
@@ -47,7 +48,7 @@ fn list_directory<S: Store>(alloc: Global, store: &mut S, dir: u64) -> Result<Re
     requires attached { IfSome (S.image store.old) (λ x. IsAttached (S.shape store.old) (inode_of (S.shape store.old) x dir) dir) }
     ensures answered { Answered (ListsDirectory (S.shape store.old) dir) (S.image store.old) (S.faults store.old) (S.faults store.new) result }
     ensures stays { StoreStays S.Store store.old store.new }
-    ensures fetches { S.fetches store.new ≤ S.fetches store.old + 2 }
+    ensures fetches { IfOk result (λ _. IfSome (S.image store.old) (λ x. S.fetches store.new ≤ S.fetches store.old + list_cost (inode_of (S.shape store.old) x dir))) }
 {
     match Dir::list(alloc, store, dir) {
         Ok(listed) => Ok(Reply::List(Lines::new(sorted_lines(alloc, listed)?))),

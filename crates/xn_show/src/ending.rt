@@ -9,8 +9,6 @@ pub enum Ending {
     Broken,
     /// Reading or printing failed, or memory ran out.
     Fault,
-    /// It is a directory in leaf or node form.
-    Unbuilt,
 }
 
 impl Ending {
@@ -21,7 +19,6 @@ impl Ending {
             Ending::Failed => 1,
             Ending::Broken => 2,
             Ending::Fault => 4,
-            Ending::Unbuilt => 11,
         }
     }
 }

@@ -17,7 +17,7 @@ use xn_machine::MemMachine;
 
 const SECTOR: usize = 512;
 
-/// How many reads there is room for: two for each name, and six before.
+/// How many reads there is room for: those of the list, and those of a look-up of each name.
 const READS: u64 = 100_000;
 
 fn main(rt: HostRuntime) -> ExitCode {

@@ -163,7 +163,6 @@ fn push_fault(alloc: Global, fault: ForkFault, text: &mut Vec<u8>) -> Result<End
             Ending::Broken,
             format!(in alloc; "broken rule {rule} block {block}\n")?,
         ),
-        ForkFault::Unbuilt => (Ending::Unbuilt, format!(in alloc; "unbuilt\n")?),
     };
     text.extend_from_slice(line.as_bytes())?;
     Ok(ending)

@@ -10,7 +10,7 @@ mod words;
 
 pub use line::{Lines, ListLine};
 pub use reply::Reply;
-pub use told::{image_line, unbuilt_line, usage_line};
+pub use told::{image_line, usage_line};
 pub use words::{FORMS, Words, WordsFault};
 
 #[cfg(test)]

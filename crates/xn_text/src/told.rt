@@ -13,13 +13,6 @@ pub fn usage_line(alloc: Global) -> Result<Vec<u8>, Memory>
     Ok(Vec::from_slice(alloc, b"usage\n")?)
 }
 
-/// Told of a directory in leaf or node form: `unbuilt`.
-pub fn unbuilt_line(alloc: Global) -> Result<Vec<u8>, Memory>
-    ensures { IfOk result (λ text. text.items ≡ texts.unbuilt_line) }
-{
-    Ok(Vec::from_slice(alloc, b"unbuilt\n")?)
-}
-
 /// The rule that an image breaks, the inode that breaks it and the block: `image rule R inode I block B`.
 pub fn image_line(alloc: Global, rule: u8, inode: u64, block: u64) -> Result<Vec<u8>, Memory>
     ensures { IfOk result (λ text. text.items ≡ texts.image_line rule inode block) }

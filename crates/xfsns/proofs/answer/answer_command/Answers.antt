@@ -1,7 +1,7 @@
 use Rattle.std.proofs.lemmas.Result.{IfOk-weaker, IfErr-weaker}
 use Rattle.xn_ns.specs.Ends.{end_of}
 use Rattle.xfsns.specs.Answer.{EndsWith}
-use Rattle.xfsns.proofs.AnswerLemmas.{over_image}
+use Rattle.xfsns.proofs.AnswerLemmas.{over_image, reads_over_image}
 use Rattle.xfsns.proofs.CauseLemmas.{cause_of_answer}
 use Rattle.xfsns.proofs.answer.answer_command.Goals as goal
 
@@ -11,6 +11,16 @@ returns-clause-answer g c =
     let ends = rw c.in_ok-geometry.ensures.stays.image_stays at c.ask_image-ended.ensures.answered.ends in
     IfOk-weaker c.answer_of.result _ _
     (λ answer said. over_image (EndsWith c.args.command.now) (g.M.Machine.image c.args.machine.now) c.in-Some.geometry (end_of c.ask_image-ended.result) answer.status answer.text.items found ends said)
+    c.answer_of.ensures.answer
+
+pub returns-clause-reads : goal.returns-clause-reads
+returns-clause-reads g c =
+    let found = rw c.in-Some.is at c.in_ok-geometry.ensures.found in
+    let reads = rw c.in_ok-geometry.ensures.stays.image_stays at c.ask_image-ended.ensures.reads in
+    let one = c.in_ok-geometry.ensures.reads in
+    IfOk-weaker c.answer_of.result _ _
+    (λ answer said done. reads_over_image c.args.command.now (g.M.Machine.image c.args.machine.now) c.in-Some.geometry c.ask_image-ended.result answer.status answer.text.items
+    (g.M.Machine.reads c.args.machine.now) (g.M.Machine.reads c.read_super.new.machine) (g.M.Machine.reads c.ask_image-ended.new.machine) found one reads said done)
     c.answer_of.ensures.answer
 
 pub returns-clause-cause : goal.returns-clause-cause
