@@ -55,7 +55,7 @@ impl Layout {
 }
 
 /// Puts an entry (`xfs_dir2_data_entry`) with its own position behind bytes.
-fn push_entry(bytes: &mut Vec<u8>, position: u16, named: &Named<'_>) -> Result<(), Memory>
+pub fn push_entry(bytes: &mut Vec<u8>, position: u16, named: &Named<'_>) -> Result<(), Memory>
     requires { length named.now.name.now ≤ 255 }
     ensures { OnOk result (bytes.new.items ≡ bytes.old.items ++ entry_bytes (entry_at position named.now)) }
 {

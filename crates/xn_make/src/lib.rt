@@ -11,6 +11,7 @@ mod superblocks;
 pub use blocks::{Named, block_directory};
 pub use images::{block_image, image};
 pub use inodes::{DATA_FORK, directory_in_block, directory_inode, regular_inode};
+pub use layout::{Gap, Leaf, push_entry, push_gap, push_leaves};
 pub use superblocks::superblock;
 
 /// How many sectors of 512 bytes an image has: one group of 576 blocks, the last 512 of them the log.
@@ -26,7 +27,7 @@ pub const ROOT_SECTOR: u64 = 128;
 pub const DIRECTORY_BLOCK: u64 = 40;
 
 /// The uuid of every image.
-const UUID: [u8; 16] = [0, 1, 2, 3, 4, 5, 6, 7, 8, 9, 10, 11, 12, 13, 14, 15];
+pub const UUID: [u8; 16] = [0, 1, 2, 3, 4, 5, 6, 7, 8, 9, 10, 11, 12, 13, 14, 15];
 
 #[cfg(test)]
 mod tests;

@@ -1,6 +1,6 @@
 use hex::FromHexError;
 use std::alloc::{AllocError, AllocFailed};
-use std::num::ParseIntError;
+use std::num::{ParseIntError, TryFromIntError};
 use xn_bytes::Memory;
 
 /// Why a row is not read.
@@ -24,6 +24,12 @@ pub enum RowFault {
 
 impl From<ParseIntError> for RowFault {
     fn from(_: ParseIntError) -> RowFault {
+        RowFault::Number
+    }
+}
+
+impl From<TryFromIntError> for RowFault {
+    fn from(_: TryFromIntError) -> RowFault {
         RowFault::Number
     }
 }

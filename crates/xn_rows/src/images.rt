@@ -3,13 +3,13 @@
 ghost use Rattle.std.specs.Prelude.{◌≡◌, ◌+◌, ◌*◌, ◌%◌, ◌≤◌, length, IfOk};
 
 use crate::RowFault;
-use crate::pieces::{Piece, SECTOR, put};
+use crate::pieces::{Piece, SECTOR, put, put_file};
 use crate::spelling::bytes;
+use crate::trees::{put_leaf_form, put_node_form};
 use std::alloc::Global;
 use xn_bytes::Kind;
 use xn_make::{
     DATA_FORK, DIRECTORY_BLOCK, Named, ROOT, block_directory, block_image, directory_inode,
-    regular_inode,
 };
 
 /// Parent 128: the directory `sub` (129), the file `file` (144); and as directories `odd` (145, a file), `gone` (far behind
@@ -35,6 +35,29 @@ inode:128 16=00000003 \
 dir:133:2:0100_00000080_040060'menu'01_00000086 \
 file:131 file:132 file:134";
 
+/// Leaf form. The hashes in order are those of `.`, `..`, `one`, `six`, `two`, `five`, `four`, and of `three`, which was taken
+/// away. `.` stands at 64, `..` at 80, `one` (131) at 96, `two` (132) at 112, a free region of 24 bytes at 128, `four` (133)
+/// at 152, and the rest from 168 on is free. In the second block `five` (134) stands at 64 and `six` (135) at 80, and the rest
+/// from 96 on is free.
+const LEAF: &str = "leaf:'one','two',-'three','four'/'five','six'";
+
+/// The same names in node form, with one leaf as the tree.
+const SINGLE: &str = "node:8:'one','two',-'three','four'/'five','six'";
+
+/// Node form with three leaves, in which stand the hashes of `.`, `..`, `quail`, `Raven`; those of `ravel`, which is that of
+/// `Raven`, `robin`, `snipe`, and of `crane`, which was taken away; and those of `stork` and `heron`. Data block 2 isn't mapped.
+const NODE: &str = "node:4:'Raven','robin',-'crane','stork'/'ravel','quail'//'snipe','heron'";
+
+/// The same names with a root of level 2. The first of two nodes below, in block 54, has two leaves, the last of which ends
+/// with `Raven`; that in block 55 has three, the first of which begins with `ravel`.
+const DEEP: &str = "node:2:'Raven','robin',-'crane','stork'/'ravel','quail'//'snipe','heron' \
+inode:128 71=0c 79=0c 320=0000000100000c00_0000000006c00001_0000000100000e00_0000000006e00001_0000000200000000_0000000007000001 \
+hashed:48 56=00020002 64=2c3db2eb_00800006_8cbcb7e8_00800007_0000000000000000_0000000000000000_0000000000000000 \
+hashed:54 0=00800007_00000000_3ebe 16=00000000000001b0 32=000102030405060708090a0b0c0d0e0f_0000000000000080_0002_0001 \
+64=0000172e_00800001_2c3db2eb_00800002 \
+hashed:55 4=00800006_3ebe 16=00000000000001b8 32=000102030405060708090a0b0c0d0e0f_0000000000000080_0003_0001 \
+64=2df8b4e9_00800003_3e587763_00800004_8cbcb7e8_00800005";
+
 /// The image that words spell.
 pub fn image(alloc: Global, words: &str) -> Result<Vec<u8>, RowFault>
     ensures { IfOk result (λ image. length image.items % 512 ≡ 0) }
@@ -52,6 +75,10 @@ fn spelled_out(name: &str) -> &str {
     match name {
         "tree" => TREE,
         "demo" => DEMO,
+        "leaf" => LEAF,
+        "single" => SINGLE,
+        "node" => NODE,
+        "deep" => DEEP,
         _ => name,
     }
 }
@@ -73,6 +100,8 @@ fn made_image(alloc: Global, word: &str) -> Result<Vec<u8>, RowFault> {
             let form = fork(alloc, spelled)?;
             Ok(xn_make::image(alloc, &form)?)
         }
+        "leaf" => image_in_leaf_form(alloc, spelled),
+        "node" => image_in_node_form(alloc, spelled),
         _ => Err(RowFault::Word),
     }
 }
@@ -86,6 +115,20 @@ fn fork(alloc: Global, spelled: &str) -> Result<Vec<u8>, RowFault>
         return Err(RowFault::Bytes);
     }
     Ok(form)
+}
+
+/// The image whose root is in leaf form, and has these names.
+fn image_in_leaf_form(alloc: Global, names: &str) -> Result<Vec<u8>, RowFault> {
+    let mut image = xn_make::image(alloc, &[])?;
+    put_leaf_form(alloc, &mut image, names)?;
+    Ok(image)
+}
+
+/// The image whose root is in node form, spelled as the number of leaf entries in a leaf, and its names.
+fn image_in_node_form(alloc: Global, spelled: &str) -> Result<Vec<u8>, RowFault> {
+    let mut image = xn_make::image(alloc, &[])?;
+    put_node_form(alloc, &mut image, spelled)?;
+    Ok(image)
 }
 
 /// The image whose root is in block form, and names the files 144 and 145 so.
@@ -148,15 +191,6 @@ fn put_directory(alloc: Global, image: &mut [u8], spelled: &str) -> Result<(), R
     let (links, form) = rest.split_once(':').ok_or(RowFault::Word)?;
     let number = number.parse::<u32>()?;
     let inode = directory_inode(u64::from(number), links.parse()?, &fork(alloc, form)?);
-    put(image, SECTOR * number as usize, &inode)
-}
-
-/// Puts the inode of an empty regular file.
-fn put_file(image: &mut [u8], number: u32) -> Result<(), RowFault> {
-    if number < 128 {
-        return Err(RowFault::Number);
-    }
-    let inode = regular_inode(u64::from(number));
     put(image, SECTOR * number as usize, &inode)
 }
 

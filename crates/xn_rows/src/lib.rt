@@ -19,9 +19,17 @@
 //! | `block` | the root, in block form, names the files 144 to 154; inode 129 is an empty directory without a link |
 //! | `block:BYTES,BYTES` | the same inodes, but the root names 144 and 145 so |
 //! | `short:BYTES` | the root is in short form, with these bytes in its data fork |
+//! | `leaf:NAMES` | the root is in leaf form, and has these names |
+//! | `node:COUNT:NAMES` | the root is in node form, with at most so many leaf entries in a leaf |
 //! | `tree`, `demo` | directories in short form, as [`images`] spells them |
+//! | `leaf`, `single`, `node`, `deep` | roots in leaf and in node form, as [`images`] spells them |
 //!
-//! BYTES are hexadecimal digits, and between `'` text: `0100_'abc'_2f`. `_` is skipped. The changes, in order:
+//! BYTES are hexadecimal digits, and between `'` text: `0100_'abc'_2f`. `_` is skipped. NAMES are those of files, each spelled
+//! as BYTES, which have the numbers from 131 on in this order. Those of a data block are parted by `,`, and data blocks by
+//! `/`; one without names isn't mapped. A name behind `-` was taken away: its place is free, and its leaf entry stale; a name
+//! that is there stands behind it. Data
+//! blocks are the blocks from 40 on, the single leaf or the root of the tree is block 48, the leaves below that are the blocks
+//! from 49 on, and the free-index block is block 56. Each has an extent of its own, in this order. The changes, in order:
 //!
 //! | Word | Change |
 //! |---|---|
@@ -30,6 +38,8 @@
 //! | `super` | from here on places are those of the superblock |
 //! | `inode:NUMBER` | from here on places are those of this inode |
 //! | `data:BLOCK` | from here on places are those of this block, one of directory entries |
+//! | `hashed:BLOCK` | from here on places are those of this block, a leaf or a node |
+//! | `free:BLOCK` | from here on places are those of this block, a free-index block |
 //! | `raw:BYTE` | from here on places are counted from this byte of the image |
 //! | `PLACE=BYTES` | puts the bytes at a place; but for `raw` the checksum of what was changed is then right |
 //! | `sectors:COUNT` | cuts the image to so many sectors |
@@ -38,11 +48,15 @@
 //! **The answer** is the exit status, and the lines that are told, parted by ` / `.
 #![tactic(auto)]
 
+mod area;
 mod fault;
+mod fork;
+mod hashed;
 mod images;
 mod pieces;
 mod row;
 mod spelling;
+mod trees;
 mod words;
 
 pub use fault::RowFault;

@@ -5,11 +5,13 @@ ghost use Rattle.xn_bytes.specs.Numbers.{overlaid};
 
 use crate::RowFault;
 use xn_bytes::put_checksum;
+use xn_make::regular_inode;
 
 /// How many bytes a sector has, and an inode.
 pub const SECTOR: usize = 512;
 
-const BLOCK: usize = 4096;
+/// How many bytes a block has.
+pub const BLOCK: usize = 4096;
 
 /// A piece of an image, from a byte on. In one with a checksum this stands at a place, and the piece has a length.
 #[derive(Clone, Copy, Debug)]
@@ -36,17 +38,33 @@ impl Piece {
     /// The piece that a word names.
     pub fn read(word: &str) -> Result<Piece, RowFault> {
         let (kind, number) = word.split_once(':').unwrap_or((word, "0"));
-        let number = number.parse::<u32>()? as usize;
+        let number = number.parse()?;
         match kind {
-            "super" => Ok(summed(SECTOR * number, SECTOR, 224)),
-            "inode" => Ok(summed(SECTOR * number, SECTOR, 100)),
-            "data" => Ok(summed(BLOCK * number, BLOCK, 4)),
+            "super" => Ok(summed(number, SECTOR, 224)),
+            "inode" => Ok(Piece::inode(number)),
+            "data" | "free" => Ok(Piece::data(number)),
+            "hashed" => Ok(Piece::hashed(number)),
             "raw" => Ok(Piece {
-                start: number,
+                start: number as usize,
                 sum: None,
             }),
             _ => Err(RowFault::Word),
         }
+    }
+
+    /// An inode.
+    pub fn inode(number: u32) -> Piece {
+        summed(number, SECTOR, 100)
+    }
+
+    /// A block of directory entries, or a free-index block.
+    pub fn data(number: u32) -> Piece {
+        summed(number, BLOCK, 4)
+    }
+
+    /// A leaf or a node.
+    pub fn hashed(number: u32) -> Piece {
+        summed(number, BLOCK, 12)
     }
 
     /// Puts bytes at a place of the piece, and its checksum.
@@ -62,11 +80,13 @@ impl Piece {
     }
 }
 
-fn summed(start: usize, length: usize, at: usize) -> Piece
-    requires { at + 4 ≤ length }
+/// The piece of this number among those of a length, which has its checksum at a place.
+fn summed(number: u32, length: usize, at: usize) -> Piece
+    requires within { at + 4 ≤ length }
+    requires short { length ≤ BLOCK }
 {
     Piece {
-        start,
+        start: length * number as usize,
         sum: Some(Checksum { length, at }),
     }
 }
@@ -82,6 +102,15 @@ pub fn put(image: &mut [u8], at: usize, bytes: &[u8]) -> Result<(), RowFault>
     }
     image[at..at + bytes.len()].copy_from_slice(bytes);
     Ok(())
+}
+
+/// Puts the inode of an empty regular file.
+pub fn put_file(image: &mut [u8], number: u32) -> Result<(), RowFault> {
+    if number < 128 {
+        return Err(RowFault::Number);
+    }
+    let inode = regular_inode(u64::from(number));
+    put(image, SECTOR * number as usize, &inode)
 }
 
 fn put_sum(image: &mut [u8], start: usize, sum: Checksum) -> Result<(), RowFault>

@@ -46,6 +46,47 @@ fn changes_of_an_image(rt: HostRuntime) -> Result<(), Fail> {
     Ok(())
 }
 
+/// What stands in the root's blocks: in the first data block, from 163,840 on, the pairs, the free region of `three`, and the
+/// entry of `four`; in the leaf, from 196,608 on, the magic number, the counts, and the leaf entries of `four` and `three`.
+const LEAF_PIECES: [(usize, &[u8]); 7] = [
+    (163_888, &[0, 168, 15, 88, 0, 128, 0, 24, 0, 0, 0, 0]),
+    (163_968, &[0xff, 0xff, 0, 24]),
+    (163_992, b"\0\0\0\0\0\0\0\x85\x04four\x01\0\x98"),
+    (196_616, &[0x3d, 0xf1]),
+    (196_664, &[0, 8, 0, 1]),
+    (196_720, &[12, 219, 250, 242, 0, 0, 0, 19]),
+    (196_728, &[77, 28, 178, 226, 0, 0, 0, 0]),
+];
+
+#[test]
+fn leaf_form(rt: HostRuntime) -> Result<(), Fail> {
+    let image = super::image(rt.alloc(), "leaf")?;
+    for (place, wanted) in LEAF_PIECES {
+        let found = image.get(place..).ok_or("a place of the image")?;
+        assert!(rt; found.starts_with(wanted), "at {place}");
+    }
+    Ok(())
+}
+
+/// The checksums of leaves and of free-index blocks are right, before and behind a change.
+#[test]
+fn checksums_of_trees(rt: HostRuntime) -> Result<(), Fail> {
+    let alloc = rt.alloc();
+    for words in [
+        "node",
+        "node hashed:48 64=00 hashed:50 4095=07 free:56 70=01",
+    ] {
+        let image = super::image(alloc, words)?;
+        for (block, at) in [(41, 4), (48, 12), (49, 12), (50, 12), (51, 12), (56, 4)] {
+            let bytes = image
+                .get(4096 * block..4096 * block + 4096)
+                .ok_or("a block")?;
+            assert!(rt; has_checksum(bytes, at), "block {block} of {words}");
+        }
+    }
+    Ok(())
+}
+
 #[test]
 fn words_of_no_image(rt: HostRuntime) {
     let cases = [
@@ -57,6 +98,11 @@ fn words_of_no_image(rt: HostRuntime) {
         ("block raw:2359296 0=00", RowFault::Place),
         ("block sector:5", RowFault::Word),
         ("block file:1", RowFault::Number),
+        ("node:'a'", RowFault::Word),
+        ("node:x:'a'", RowFault::Number),
+        ("leaf:'a'/2", RowFault::Bytes),
+        ("leaf:'a'///////'b'", RowFault::Number),
+        ("leaf hashed:576 0=00", RowFault::Place),
     ];
     for (words, fault) in cases {
         assert_eq!(rt; image(rt.alloc(), words).err(), Some(fault), "{words}");
