@@ -6,7 +6,7 @@ PATH=$PATH:/usr/sbin:/sbin
 lib=$(cd "$(dirname "${BASH_SOURCE[0]}")" && pwd)
 top=$(cd "$lib/../.." && pwd)
 work=$(mktemp -d)
-trap 'rm -rf "$work"' EXIT
+trap 'unmount; rm -rf "$work"' EXIT
 export PYTHONDONTWRITEBYTECODE=1
 
 fail() {
@@ -14,13 +14,29 @@ fail() {
     exit 1
 }
 
+skip() {
+    echo "skipped: $1"
+    exit 0
+}
+
+# need_tools [TOOL..]: those of xfsprogs, and these.
 need_tools() {
-    for tool in mkfs.xfs xfs_db; do
-        if ! command -v "$tool" >"$work/found"; then
-            echo "skipped: no $tool"
-            exit 0
-        fi
+    for tool in mkfs.xfs xfs_db "$@"; do
+        command -v "$tool" >"$work/found" || skip "no $tool"
     done
+}
+
+# mount_image OPTION: mounts the image over a loop device, or leaves in $work/refused why not.
+mounted=
+mount_image() {
+    mkdir -p "$work/mount"
+    mount -t xfs -o "loop,$1" "$image" "$work/mount" 2>"$work/refused" || return 1
+    mounted=$work/mount
+}
+
+unmount() {
+    [ -z "$mounted" ] || umount "$mounted"
+    mounted=
 }
 
 # find_program CRATE [PROGRAM]: sets `program` to PROGRAM, or else to what `rt run` builds of the crate, which proves only

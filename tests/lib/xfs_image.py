@@ -14,12 +14,21 @@ SECTOR = 512
 BLOCK = 4096
 
 
+def table():
+    # What a byte does to the register.
+    for byte in range(256):
+        for _ in range(8):
+            byte = (byte >> 1) ^ (0x82F63B78 if byte & 1 else 0)
+        yield byte
+
+
+TABLE = list(table())
+
+
 def crc32c(data):
     register = 0xFFFFFFFF
     for byte in data:
-        register ^= byte
-        for _ in range(8):
-            register = (register >> 1) ^ (0x82F63B78 if register & 1 else 0)
+        register = TABLE[(register ^ byte) & 255] ^ (register >> 8)
     return register ^ 0xFFFFFFFF
 
 

@@ -5,6 +5,7 @@ mod edge;
 mod lists;
 mod outside;
 mod paths;
+mod trees;
 mod words;
 
 use super::*;

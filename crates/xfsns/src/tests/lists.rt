@@ -118,11 +118,11 @@ list IMAGE MANIFEST 129 | block inode:129 82=00 | 2 image rule 11 inode 129 bloc
 list IMAGE MANIFEST 129 | block inode:129 4=02 82=00 | 2 image rule 10 inode 129 block 0
 list IMAGE MANIFEST 129 | block inode:129 63=05 | 0 error 2 ENOENT
 list IMAGE MANIFEST 129 | block inode:129 5=02 | 0 error 2 ENOENT
-list IMAGE MANIFEST 129 | block inode:129 5=02 19=01 | 11 unbuilt
+list IMAGE MANIFEST 129 | block inode:129 5=02 19=01 | 2 image rule 15 inode 129 block 0
 
 # two causes of the root: its extent has two blocks, and is flagged; two blocks, and the inode has the size of one
 list IMAGE MANIFEST 128 | block inode:128 176=80 191=02 | 2 image rule 13 inode 128 block 0
-list IMAGE MANIFEST 128 | block inode:128 191=02 | 11 unbuilt
+list IMAGE MANIFEST 128 | block inode:128 191=02 | 2 image rule 15 inode 128 block 0
 # no link and no attribute fork
 list IMAGE MANIFEST 128 | block inode:128 19=00 82=00 | 0 ok 11 / 144 reg entry-0001 / 145 reg entry-0002 / 146 reg entry-0003 / 147 reg entry-0004 / 148 reg entry-0005 / 149 reg entry-0006 / 150 reg entry-0007 / 151 reg entry-0008 / 152 reg entry-0009 / 153 reg entry-0010 / 154 reg entry-0011
 ";

@@ -68,7 +68,7 @@ resolve IMAGE MANIFEST /sub/f | tree inode:129 63=1a | 2 image rule 16 inode 129
 resolve IMAGE MANIFEST /sub/.. | tree inode:129 63=1a | 0 error 22 EINVAL
 resolve IMAGE MANIFEST /file | tree inode:129 63=1a | 0 ok 144 reg
 # its form in no block
-resolve IMAGE MANIFEST /sub/f | tree inode:129 5=02 | 11 unbuilt
+resolve IMAGE MANIFEST /sub/f | tree inode:129 5=02 | 2 image rule 15 inode 129 block 0
 resolve IMAGE MANIFEST /sub/.. | tree inode:129 5=02 | 0 error 22 EINVAL
 # no link
 resolve IMAGE MANIFEST /sub/f | tree inode:129 19=00 | 0 ok 144 reg
@@ -92,7 +92,7 @@ resolve IMAGE MANIFEST / | block data:40 118=0068 | 0 ok 128 dir
 # a leaf entry that names no entry
 resolve IMAGE MANIFEST /entry-0011 | block data:40 4012=0000002d | 2 image rule 19 inode 128 block 0
 # two blocks in the root's extent
-resolve IMAGE MANIFEST /entry-0003 | block inode:128 191=02 | 11 unbuilt
+resolve IMAGE MANIFEST /entry-0003 | block inode:128 191=02 | 2 image rule 15 inode 128 block 0
 resolve IMAGE MANIFEST / | block inode:128 191=02 | 0 ok 128 dir
 
 # names of one hash, 0x30c1, in block form and in short form
