@@ -1,123 +1,119 @@
-ghost use Rattle.std.specs.Prelude.{◌<◌};
+//! Short forms as rows of text: a name, the form's bytes, and what is told of them. Blank lines, and those that begin with `#`,
+//! are no rows.
+//!
+//! With a name the entry is told that it finds, and else the form: its parent and its entries, or the place of its fault.
+//! Entries are position, inode, kind and name. The bytes are spelled in words of at most eight.
 
 use super::*;
-use std::test::*;
-use xn_bytes::Kind;
+use std::alloc::Global;
+use std::test::Fail;
 
-// parent 128; `a`, regular, inode 131, position 96
-const ONE: [u8; 15] = [1, 0, 0, 0, 0, 0x80, 1, 0, 0x60, b'a', 1, 0, 0, 0, 0x83];
+const ROWS: &str = r"
+# parent 128; the file `a`, inode 131, position 96; with a wide inode number; no entry
+| 01 00 00000080 01 0060 61 01 00000083 | 128 / 96 131 Reg a
+| 01 01 0000000000000080 01 0060 61 01 0000000100000083 | 128 / 96 4294967427 Reg a
+| 00 00 00000080 | 128
+a | 01 01 0000000000000080 01 0060 61 01 0000000100000083 | 96 4294967427 Reg a
+a | 00 00 00000080 | none
 
-// the same with inode 0x100000083
-const WIDE: [u8; 23] = [
-    1, 1, 0, 0, 0, 0, 0, 0, 0, 0x80, 1, 0, 0x60, b'a', 1, 0, 0, 0, 1, 0, 0, 0, 0x83,
-];
+# whole names: the file `ab`, inode 131, position 96; the directory `a`, inode 132, position 112
+a | 02 00 00000080 02 0060 6162 01 00000083 01 0070 61 02 00000084 | 112 132 Dir a
+ab | 02 00 00000080 02 0060 6162 01 00000083 01 0070 61 02 00000084 | 96 131 Reg ab
+b | 02 00 00000080 02 0060 6162 01 00000083 01 0070 61 02 00000084 | none
+abc | 02 00 00000080 02 0060 6162 01 00000083 01 0070 61 02 00000084 | none
 
-// parent 128; `ab`, regular, inode 131, position 96; `a`, directory, inode 132, position 112
-const TWO: [u8; 25] = [
-    2, 0, 0, 0, 0, 0x80, 2, 0, 0x60, b'a', b'b', 1, 0, 0, 0, 0x83, 1, 0, 0x70, b'a', 2, 0, 0, 0,
-    0x84,
-];
+# cut off
+| | fault 0
+| 01 | fault 1
+| 01 00 | fault 2
+| 01 00 00 | fault 3
+| 01 00 0000 | fault 4
+| 01 00 000000 | fault 5
+| 01 00 00000080 | fault 6
+| 01 00 00000080 01 | fault 7
+| 01 00 00000080 01 00 | fault 8
+| 01 00 00000080 01 0060 | fault 9
+| 01 00 00000080 01 0060 61 | fault 10
+| 01 00 00000080 01 0060 61 01 | fault 11
+| 01 00 00000080 01 0060 61 01 00 | fault 12
+| 01 00 00000080 01 0060 61 01 0000 | fault 13
+| 01 00 00000080 01 0060 61 01 000000 | fault 14
+# a byte behind the last entry
+| 01 00 00000080 01 0060 61 01 00000083 00 | fault 15
+# a position in the entry before
+| 02 00 00000080 02 0060 6162 01 00000083 01 0068 61 02 00000084 | fault 17
+# the last position, and one behind it
+| 01 00 00000080 01 0fd0 61 01 00000083 | 128 / 4048 131 Reg a
+| 01 00 00000080 01 0fd8 61 01 00000083 | fault 7
+# kinds that are none
+| 01 00 00000080 01 0060 61 00 00000083 | fault 10
+| 01 00 00000080 01 0060 61 08 00000083 | fault 10
+# positions before the first, and between two
+| 01 00 00000080 01 0058 61 01 00000083 | fault 7
+| 01 00 00000080 01 0061 61 01 00000083 | fault 7
+# wide numbers, of which there are none
+| 01 01 00000080 01 0060 61 01 00000083 | fault 11
 
-fn fault_of(bytes: &[u8]) -> Option<u64> {
-    match Short::read(bytes) {
-        Ok(_) => None,
-        Err(fault) => Some(fault.at),
+# no number is wide, which comes before the kind and the position, and behind the end
+| 01 01 0000000000000080 01 0060 61 01 0000000000000083 | fault 1
+| 01 01 0000000000000080 01 0060 61 09 0000000000000083 | fault 1
+| 01 01 0000000000000080 01 0061 61 01 0000000000000083 | fault 1
+| 01 01 0000000000000080 01 0061 61 01 00000000000000 | fault 11
+";
+
+/// What is told of the row that a line is, and what it wants.
+fn told(alloc: Global, line: &str) -> Result<(String, &str), Fail> {
+    let (name, rest) = line.split_once('|').ok_or("a name")?;
+    let (spelled, wanted) = rest.split_once('|').ok_or("bytes")?;
+    let bytes = bytes(alloc, spelled)?;
+    let told = match Short::read(&bytes) {
+        Err(fault) => format!(in alloc; "fault {}", fault.at)?,
+        Ok(short) if name.trim().is_empty() => form_told(alloc, &short)?,
+        Ok(short) => match short.find(name.trim().as_bytes()) {
+            Some(entry) => entry_told(alloc, &entry)?,
+            None => String::from_str(alloc, "none")?,
+        },
+    };
+    Ok((told, wanted.trim()))
+}
+
+/// The bytes that words of hexadecimal digits spell.
+fn bytes(alloc: Global, spelled: &str) -> Result<Vec<u8>, Fail> {
+    let mut bytes = Vec::new(alloc);
+    for word in spelled.split_whitespace() {
+        if word.len() % 2 != 0 || word.len() > 16 {
+            return Err(Fail::from("digits"));
+        }
+        let number = u64::from_str_radix(word, 16)?;
+        bytes.extend_from_slice(&number.to_be_bytes()[8 - word.len() / 2..])?;
     }
+    Ok(bytes)
 }
 
-fn with<const N: usize>(mut bytes: [u8; N], place: usize, byte: u8) -> [u8; N]
-    requires { place < N }
-{
-    bytes[place] = byte;
-    bytes
-}
-
-#[test]
-fn one_entry(rt: HostRuntime) -> Result<(), Fail> {
-    let short = Short::read(&ONE).ok().ok_or("a form")?;
-    assert_eq!(rt; short.parent(), 128);
-    assert_eq!(rt; short.entries().count(), 1);
-    let entry = short.entries().next().ok_or("an entry")?;
-    assert_eq!(rt; entry.name, b"a".as_slice());
-    assert_eq!(rt; entry.ino, 131);
-    assert_eq!(rt; entry.kind, Kind::Reg);
-    assert_eq!(rt; entry.position, 96);
-    Ok(())
-}
-
-#[test]
-fn wide_numbers(rt: HostRuntime) -> Result<(), Fail> {
-    let short = Short::read(&WIDE).ok().ok_or("a form")?;
-    assert_eq!(rt; short.parent(), 128);
-    let entry = short.find(b"a").ok_or("an entry")?;
-    assert_eq!(rt; entry.ino, 0x1_0000_0083);
-    Ok(())
-}
-
-#[test]
-fn no_entries(rt: HostRuntime) -> Result<(), Fail> {
-    let short = Short::read(&[0, 0, 0, 0, 0, 0x80]).ok().ok_or("a form")?;
-    assert_eq!(rt; short.parent(), 128);
-    assert_eq!(rt; short.entries().count(), 0);
-    assert!(rt; short.find(b"a").is_none());
-    Ok(())
-}
-
-#[test]
-fn whole_names(rt: HostRuntime) -> Result<(), Fail> {
-    let short = Short::read(&TWO).ok().ok_or("a form")?;
-    let entry = short.find(b"a").ok_or("an entry")?;
-    assert_eq!(rt; entry.ino, 132);
-    assert_eq!(rt; entry.kind, Kind::Dir);
-    assert_eq!(rt; entry.position, 112);
-    let longer = short.find(b"ab").ok_or("an entry")?;
-    assert_eq!(rt; longer.ino, 131);
-    assert!(rt; short.find(b"b").is_none());
-    assert!(rt; short.find(b"abc").is_none());
-    Ok(())
-}
-
-#[test]
-fn short_texts(rt: HostRuntime) {
-    for length in 0..ONE.len() {
-        assert_eq!(rt; fault_of(&ONE[..length]), Some(length as u64));
+fn form_told(alloc: Global, short: &Short<'_>) -> Result<String, Fail> {
+    let mut told = format!(in alloc; "{}", short.parent())?;
+    for entry in short.entries() {
+        told.push_str(" / ")?;
+        told.push_str(&entry_told(alloc, &entry)?)?;
     }
-    assert_eq!(rt; fault_of(&ONE), None);
+    Ok(told)
+}
+
+fn entry_told(alloc: Global, entry: &ShortEntry<'_>) -> Result<String, Fail> {
+    let name = str::from_utf8(entry.name).ok().ok_or("a text")?;
+    let (position, ino, kind) = (entry.position, entry.ino, entry.kind);
+    Ok(format!(in alloc; "{position} {ino} {kind:?} {name}")?)
 }
 
 #[test]
-fn faults(rt: HostRuntime) {
-    let longer = [1, 0, 0, 0, 0, 0x80, 1, 0, 0x60, b'a', 1, 0, 0, 0, 0x83, 0];
-    let overlapping = [
-        2, 0, 0, 0, 0, 0x80, 2, 0, 0x60, b'a', b'b', 1, 0, 0, 0, 0x83, 1, 0, 0x68, b'a', 2, 0, 0,
-        0, 0x84,
-    ];
-    assert_eq!(rt; fault_of(&longer), Some(15));
-    assert_eq!(rt; fault_of(&overlapping), Some(17));
-    let last = with(ONE, 7, 0x0f);
-    assert_eq!(rt; fault_of(&with(last, 8, 0xd0)), None);
-    assert_eq!(rt; fault_of(&with(last, 8, 0xd8)), Some(7));
-    let changed = [
-        (10, 0, 10),
-        (10, 8, 10),
-        (8, 0x58, 7),
-        (8, 0x61, 7),
-        (1, 1, 11),
-    ];
-    for (place, byte, at) in changed {
-        assert_eq!(rt; fault_of(&with(ONE, place, byte)), Some(at));
+fn short_forms(rt: HostRuntime) {
+    for line in ROWS.lines() {
+        if line.is_empty() || line.starts_with('#') {
+            continue;
+        }
+        match told(rt.alloc(), line) {
+            Ok((told, wanted)) => assert_eq!(rt; told.as_str(), wanted, "{line}"),
+            Err(_) => panic!(rt; "no row: {line}"),
+        }
     }
-}
-
-#[test]
-fn wrong_count_first(rt: HostRuntime) {
-    // no number is wide
-    let counted = [
-        1, 1, 0, 0, 0, 0, 0, 0, 0, 0x80, 1, 0, 0x60, b'a', 1, 0, 0, 0, 0, 0, 0, 0, 0x83,
-    ];
-    assert_eq!(rt; fault_of(&counted), Some(1));
-    assert_eq!(rt; fault_of(&with(counted, 14, 9)), Some(1));
-    let misplaced = with(counted, 12, 0x61);
-    assert_eq!(rt; fault_of(&misplaced), Some(1));
-    assert_eq!(rt; fault_of(&misplaced[..22]), Some(11));
 }

@@ -1,90 +1,119 @@
+//! Lines of words and replies as rows of text: what is given, and what is read or told. Blank lines, and those that begin with
+//! `#`, are no rows.
+
 use super::*;
 use std::alloc::Global;
 use std::test::Fail;
 use xn_bytes::{Errno, Kind, Name};
 
-fn read(alloc: Global, given: &[&str]) -> Result<Result<Words, WordsFault>, Fail> {
+/// Words, in which `{}` is nothing and `{_}` a space, and what they are read as: `usage`, a list's number, or a path's bytes.
+const WORDS: &str = r"
+| usage
+list | usage
+apply IMAGE | usage
+--help | usage
+list -h MANIFEST 128 | usage
+list -- IMAGE MANIFEST 128 | usage
+list -- MANIFEST 128 | usage
+list - MANIFEST 128 | usage
+list IMAGE MANIFEST | usage
+list IMAGE MANIFEST 128 128 | usage
+lists IMAGE MANIFEST 128 | usage
+list {} MANIFEST 128 | usage
+list IMAGE -MANIFEST 128 | usage
+list IMAGE MANIFEST {} | usage
+list IMAGE MANIFEST 0128 | usage
+list IMAGE MANIFEST +128 | usage
+list IMAGE MANIFEST 18446744073709551616 | usage
+resolve IMAGE MANIFEST | usage
+resolve IMAGE MANIFEST / / | usage
+resolve IMAGE MANIFEST -x | usage
+resolve IMAGE MANIFEST {} | usage
+resolve IMAGE MANIFEST a\zz | usage
+resolve IMAGE MANIFEST a\5C | usage
+resolve IMAGE MANIFEST a\ | usage
+resolve IMAGE MANIFEST a\2fb | usage
+resolve IMAGE MANIFEST a{_}b | usage
+
+list IMAGE MANIFEST 0 | list 0
+list IMAGE MANIFEST 128 | list 128
+list IMAGE MANIFEST 18446744073709551615 | list 18446744073709551615
+
+resolve IMAGE MANIFEST / | [47]
+resolve IMAGE MANIFEST // | [47, 47]
+resolve IMAGE MANIFEST /home/f042 | [47, 104, 111, 109, 101, 47, 102, 48, 52, 50]
+resolve IMAGE MANIFEST a\5cb | [97, 92, 98]
+resolve IMAGE MANIFEST `\c1\00 | [96, 193, 0]
+";
+
+/// Each error, and the line that tells it.
+const ERRORS: &str = r"
+EPERM | > error 1 EPERM
+ENOENT | > error 2 ENOENT
+EBUSY | > error 16 EBUSY
+EEXIST | > error 17 EEXIST
+ENOTDIR | > error 20 ENOTDIR
+EISDIR | > error 21 EISDIR
+EINVAL | > error 22 EINVAL
+EFBIG | > error 27 EFBIG
+ENOSPC | > error 28 ENOSPC
+ENAMETOOLONG | > error 36 ENAMETOOLONG
+ENOTEMPTY | > error 39 ENOTEMPTY
+";
+
+const ERRNOS: [Errno; 11] = [
+    Errno::EPERM,
+    Errno::ENOENT,
+    Errno::EBUSY,
+    Errno::EEXIST,
+    Errno::ENOTDIR,
+    Errno::EISDIR,
+    Errno::EINVAL,
+    Errno::EFBIG,
+    Errno::ENOSPC,
+    Errno::ENAMETOOLONG,
+    Errno::ENOTEMPTY,
+];
+
+/// The word that a row spells.
+fn word_of(alloc: Global, spelled: &str) -> Result<String, Fail> {
+    match spelled.split_once('{') {
+        Some((front, rest)) => {
+            let (braces, back) = rest.split_once('}').ok_or("braces")?;
+            let space = if braces.is_empty() { "" } else { " " };
+            Ok(format!(in alloc; "{front}{space}{back}")?)
+        }
+        None => Ok(String::from_str(alloc, spelled)?),
+    }
+}
+
+/// What the words of a row are read as, and what it wants.
+fn told(alloc: Global, line: &str) -> Result<(String, &str), Fail> {
+    let (spelled, wanted) = line.split_once('|').ok_or("words")?;
     let mut words = Vec::new(alloc);
-    for word in given {
-        words.push(String::from_str(alloc, word)?)?;
+    for word in spelled.split_whitespace() {
+        words.push(word_of(alloc, word)?)?;
     }
-    Ok(Words::read(alloc, &words))
+    let told = match Words::read(alloc, &words) {
+        Ok(Words::List { ino }) => format!(in alloc; "list {ino}")?,
+        Ok(Words::Resolve { path }) => format!(in alloc; "{:?}", path.as_slice())?,
+        Err(WordsFault::Usage) => String::from_str(alloc, "usage")?,
+        Err(WordsFault::Memory) => return Err(Fail::from("there is memory")),
+    };
+    Ok((told, wanted.trim()))
 }
 
 #[test]
-fn refuses_words(rt: HostRuntime) -> Result<(), Fail> {
-    let alloc = rt.alloc();
-    let cases: [&[&str]; 20] = [
-        &[],
-        &["list"],
-        &["apply", "IMAGE"],
-        &["--help"],
-        &["list", "-h", "MANIFEST", "128"],
-        &["list", "--", "IMAGE", "MANIFEST", "128"],
-        &["list", "--", "MANIFEST", "128"],
-        &["list", "-", "MANIFEST", "128"],
-        &["list", "IMAGE", "MANIFEST"],
-        &["list", "IMAGE", "MANIFEST", "128", "128"],
-        &["lists", "IMAGE", "MANIFEST", "128"],
-        &["list", "", "MANIFEST", "128"],
-        &["list", "IMAGE", "-MANIFEST", "128"],
-        &["list", "IMAGE", "MANIFEST", ""],
-        &["list", "IMAGE", "MANIFEST", "0128"],
-        &["list", "IMAGE", "MANIFEST", "+128"],
-        &["list", "IMAGE", "MANIFEST", "18446744073709551616"],
-        &["resolve", "IMAGE", "MANIFEST"],
-        &["resolve", "IMAGE", "MANIFEST", "/", "/"],
-        &["resolve", "IMAGE", "MANIFEST", "-x"],
-    ];
-    for given in cases {
-        assert!(rt;
-            read(alloc, given)?.err() == Some(WordsFault::Usage),
-            "{given:?}"
-        );
+fn reads_words(rt: HostRuntime) {
+    for line in WORDS.lines() {
+        if line.is_empty() {
+            continue;
+        }
+        match told(rt.alloc(), line) {
+            Ok((told, wanted)) => assert_eq!(rt; told.as_str(), wanted, "{line}"),
+            Err(_) => panic!(rt; "no row: {line}"),
+        }
     }
-    for path in ["", "a\\zz", "a\\5C", "a\\", "a\\2fb", "a b"] {
-        let given = ["resolve", "IMAGE", "MANIFEST", path];
-        assert!(rt;
-            read(alloc, &given)?.err() == Some(WordsFault::Usage),
-            "{path}"
-        );
-    }
-    Ok(())
-}
-
-#[test]
-fn reads_numbers(rt: HostRuntime) -> Result<(), Fail> {
-    let cases = [
-        ("0", 0),
-        ("128", 128),
-        ("18446744073709551615", 18_446_744_073_709_551_615),
-    ];
-    for (word, number) in cases {
-        let Ok(Words::List { ino }) = read(rt.alloc(), &["list", "IMAGE", "MANIFEST", word])? else {
-            return Err(Fail::from(word));
-        };
-        assert_eq!(rt; ino, number);
-    }
-    Ok(())
-}
-
-#[test]
-fn reads_paths(rt: HostRuntime) -> Result<(), Fail> {
-    let cases: [(&str, &[u8]); 5] = [
-        ("/", b"/"),
-        ("//", b"//"),
-        ("/home/f042", b"/home/f042"),
-        ("a\\5cb", b"a\\b"),
-        ("`\\c1\\00", b"\x60\xc1\0"),
-    ];
-    for (word, bytes) in cases {
-        let Ok(Words::Resolve { path }) = read(rt.alloc(), &["resolve", "IMAGE", "MANIFEST", word])?
-        else {
-            return Err(Fail::from(word));
-        };
-        assert_eq!(rt; path.as_slice(), bytes);
-    }
-    Ok(())
 }
 
 /// The bytes that a reply appends to others.
@@ -123,21 +152,13 @@ fn replies(rt: HostRuntime) -> Result<(), Fail> {
 
 #[test]
 fn errors(rt: HostRuntime) -> Result<(), Fail> {
-    let cases = [
-        (Errno::EPERM, "> error 1 EPERM\n"),
-        (Errno::ENOENT, "> error 2 ENOENT\n"),
-        (Errno::EBUSY, "> error 16 EBUSY\n"),
-        (Errno::EEXIST, "> error 17 EEXIST\n"),
-        (Errno::ENOTDIR, "> error 20 ENOTDIR\n"),
-        (Errno::EISDIR, "> error 21 EISDIR\n"),
-        (Errno::EINVAL, "> error 22 EINVAL\n"),
-        (Errno::EFBIG, "> error 27 EFBIG\n"),
-        (Errno::ENOSPC, "> error 28 ENOSPC\n"),
-        (Errno::ENAMETOOLONG, "> error 36 ENAMETOOLONG\n"),
-        (Errno::ENOTEMPTY, "> error 39 ENOTEMPTY\n"),
-    ];
-    for (error, text) in cases {
-        assert_eq!(rt; text_of(rt.alloc(), &Reply::Error(error))?.as_str(), text);
+    let alloc = rt.alloc();
+    assert_eq!(rt; ERRORS.lines().count(), 1 + ERRNOS.len());
+    for (error, row) in ERRNOS.iter().zip(ERRORS.lines().skip(1)) {
+        let text = text_of(alloc, &Reply::Error(*error))?;
+        let told = format!(in alloc; "{error:?} | {text}")?;
+        let wanted = format!(in alloc; "{row}\n")?;
+        assert_eq!(rt; told, wanted);
     }
     Ok(())
 }
@@ -146,8 +167,6 @@ fn errors(rt: HostRuntime) -> Result<(), Fail> {
 fn other_lines(rt: HostRuntime) -> Result<(), Fail> {
     let usage = usage_line(rt.alloc()).ok().ok_or("there is memory")?;
     assert_eq!(rt; usage.as_slice(), b"usage\n".as_slice());
-    let unbuilt = unbuilt_line(rt.alloc()).ok().ok_or("there is memory")?;
-    assert_eq!(rt; unbuilt.as_slice(), b"unbuilt\n".as_slice());
     let image = image_line(rt.alloc(), 24, 144, 0)
         .ok()
         .ok_or("there is memory")?;
