@@ -28,6 +28,3 @@ pub use numbers::{
     little_u32_at, put_little_u32, put_u16, put_u32, put_u64, u8_at, u16_at, u32_at, u64_at,
 };
 pub use status::Status;
-
-#[cfg(test)]
-mod tests;

@@ -16,6 +16,3 @@ pub use block::DataBlock;
 pub use entry::{DataEntries, DataEntry};
 pub use fault::DataFault;
 pub use tail::Tail;
-
-#[cfg(test)]
-mod tests;

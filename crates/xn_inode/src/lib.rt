@@ -15,6 +15,3 @@ pub use fork_fault::ForkFault;
 pub use inode_core::{Core, CoreFault, EXTENTS_FORMAT, LOCAL_FORMAT};
 pub use store::{Store, StoreFault};
 pub use superblock::{GeomFault, Super};
-
-#[cfg(test)]
-mod tests;

@@ -13,6 +13,3 @@ pub use dir_leaf::DirLeaf;
 pub use entry::HashAt;
 pub use free::{FreeFault, FreeIndex};
 pub use tail::LeafTail;
-
-#[cfg(test)]
-mod tests;

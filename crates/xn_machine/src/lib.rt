@@ -10,6 +10,3 @@ pub use machine::{Failed, Machine};
 pub use memory::MemMachine;
 pub use memory_source::MemSource;
 pub use source::Source;
-
-#[cfg(test)]
-mod tests;

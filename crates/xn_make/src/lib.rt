@@ -28,6 +28,3 @@ pub const DIRECTORY_BLOCK: u64 = 40;
 
 /// The uuid of every image.
 pub const UUID: [u8; 16] = [0, 1, 2, 3, 4, 5, 6, 7, 8, 9, 10, 11, 12, 13, 14, 15];
-
-#[cfg(test)]
-mod tests;

@@ -7,6 +7,3 @@ mod view;
 
 pub use seen::Seen;
 pub use view::View;
-
-#[cfg(test)]
-mod tests;

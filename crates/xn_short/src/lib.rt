@@ -13,6 +13,3 @@ mod width;
 pub use entry::{ShortEntries, ShortEntry};
 pub use fault::ShortFault;
 pub use short::Short;
-
-#[cfg(test)]
-mod tests;

@@ -12,6 +12,3 @@ pub use line::{Lines, ListLine};
 pub use reply::Reply;
 pub use told::{image_line, usage_line};
 pub use words::{FORMS, Words, WordsFault};
-
-#[cfg(test)]
-mod tests;

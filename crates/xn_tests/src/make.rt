@@ -1,7 +1,7 @@
-use super::*;
 use std::process::Abort;
 use std::test::Fail;
 use xn_bytes::{has_checksum, u8_at, u16_at, u32_at, u64_at};
+use xn_make::{block_image, directory_in_block, image, regular_inode};
 
 /// Where the root directory's block begins and ends.
 const START: usize = 163_840;

@@ -1,8 +1,8 @@
 //! Calls on a machine and on a source as rows of text.
 
-use super::*;
 use std::alloc::Global;
 use std::test::Fail;
+use xn_machine::{Failed, Machine, MemMachine, MemSource, Source};
 
 /// Which calls fail, before which one the machine stops, how many calls and bytes there is room for, the calls, and what each
 /// gives: the byte of which a sector is full, or whether the call succeeded. `told` and `image` are no calls of the device.

@@ -6,11 +6,11 @@
 
 ghost use Rattle.std.specs.Prelude.{◌+◌, ◌≤◌, IfOk};
 
-use super::*;
 use std::alloc::Global;
 use std::process::Abort;
 use std::test::Fail;
 use xn_bytes::put_checksum;
+use xn_inode::{Core, Extents, Super};
 
 /// One group of 576 blocks, with the log in its last 512.
 const SUPERBLOCK: &str = "0=58465342 4=00001000 8=0000000000000240 \

@@ -1,9 +1,9 @@
 ghost use Rattle.std.specs.Prelude.{◌≡◌, ◌+◌, ◌*◌, ◌≤◌, length};
 
-use super::*;
 use std::test::*;
 use xn_bytes::{put_checksum, put_u16, put_u32, put_u64};
 use xn_datree::{Leaf, LeafFault};
+use xn_leaf::{DirLeaf, FreeFault, FreeIndex, HashAt, LeafTail};
 
 const UUID: [u8; 16] = [0, 1, 2, 3, 4, 5, 6, 7, 8, 9, 10, 11, 12, 13, 14, 15];
 

@@ -1,6 +1,6 @@
-use super::*;
 use std::test::Fail;
 use xn_bytes::has_checksum;
+use xn_rows::{Row, RowFault, bytes, image};
 
 #[test]
 fn a_row(rt: HostRuntime) -> Result<(), Fail> {
@@ -33,7 +33,7 @@ fn changes_of_an_image(rt: HostRuntime) -> Result<(), Fail> {
     .err()
     .ok_or("a digit is no byte")?;
     assert_eq!(rt; image, RowFault::Bytes);
-    let image = super::image(
+    let image = xn_rows::image(
         alloc,
         "block inode:144 19=05 raw:74240 19='7'_ff sectors:200",
     )?;
@@ -60,7 +60,7 @@ const LEAF_PIECES: [(usize, &[u8]); 7] = [
 
 #[test]
 fn leaf_form(rt: HostRuntime) -> Result<(), Fail> {
-    let image = super::image(rt.alloc(), "leaf")?;
+    let image = xn_rows::image(rt.alloc(), "leaf")?;
     for (place, wanted) in LEAF_PIECES {
         let found = image.get(place..).ok_or("a place of the image")?;
         assert!(rt; found.starts_with(wanted), "at {place}");
@@ -76,7 +76,7 @@ fn checksums_of_trees(rt: HostRuntime) -> Result<(), Fail> {
         "node",
         "node hashed:48 64=00 hashed:50 4095=07 free:56 70=01",
     ] {
-        let image = super::image(alloc, words)?;
+        let image = xn_rows::image(alloc, words)?;
         for (block, at) in [(41, 4), (48, 12), (49, 12), (50, 12), (51, 12), (56, 4)] {
             let bytes = image
                 .get(4096 * block..4096 * block + 4096)

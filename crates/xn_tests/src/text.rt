@@ -1,10 +1,10 @@
 //! Lines of words and replies as rows of text: what is given, and what is read or told. Blank lines, and those that begin with
 //! `#`, are no rows.
 
-use super::*;
 use std::alloc::Global;
 use std::test::Fail;
 use xn_bytes::{Errno, Kind, Name};
+use xn_text::{Lines, ListLine, Reply, Words, WordsFault, image_line, usage_line};
 
 /// Words, in which `{}` is nothing and `{_}` a space, and what they are read as: `usage`, a list's number, or a path's bytes.
 const WORDS: &str = r"

@@ -4,9 +4,9 @@
 //! With a name the entry is told that it finds, and else the form: its parent and its entries, or the place of its fault.
 //! Entries are position, inode, kind and name. The bytes are spelled in words of at most eight.
 
-use super::*;
 use std::alloc::Global;
 use std::test::Fail;
+use xn_short::{Short, ShortEntry};
 
 const ROWS: &str = r"
 # parent 128; the file `a`, inode 131, position 96; with a wide inode number; no entry

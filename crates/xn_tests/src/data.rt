@@ -6,11 +6,11 @@
 
 ghost use Rattle.std.specs.Prelude.{◌≡◌, length};
 
-use super::*;
 use std::alloc::Global;
 use std::process::Abort;
 use std::test::Fail;
 use xn_bytes::put_checksum;
+use xn_data::{DataBlock, DataEntry};
 
 /// Root 128 in block form, with eleven names, which stand for the inodes 144 to 154.
 const BLOCK: &str = "0=58444233 8=0000000000001080 40=0000000000000080 48=0168 50=0e28 \

@@ -1,5 +1,8 @@
-use super::*;
 use std::test::Fail;
+use xn_bytes::{
+    Bytes, Crc, EscapeFault, Kind, Name, NameFault, escape, has_checksum, name_hash, parent_hash,
+    put_checksum, put_little_u32, put_u16, put_u32, put_u64, unescape,
+};
 
 #[test]
 fn checksum_in_pieces(rt: HostRuntime) {

@@ -3,12 +3,12 @@ ghost use Rattle.xn_bytes.specs.Superblock.{IsBlock};
 ghost use Rattle.xn_inode.specs.Frames.{StoreStays};
 ghost use Rattle.xn_replay.specs.Viewed.{IsSeen};
 
-use super::*;
 use std::alloc::Global;
 use std::test::Fail;
 use xn_inode::{Store, StoreFault, Super};
 use xn_machine::{Machine, MemMachine};
 use xn_make::{ROOT, directory_inode};
+use xn_replay::{Seen, View};
 
 /// The block of the root directory's inode.
 const ROOT_BLOCK: u64 = 16;
