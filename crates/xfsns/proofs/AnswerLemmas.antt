@@ -1,9 +1,8 @@
 -- From a command's result to the answer over the image, and from the words that were read to any that they are.
-use Rattle.std.proofs.Common.{◌≡◌, ℕ, ◌+◌, ◌*◌, ◌≤◌, List, length, codes, Option, Some, None, Result, Ok, Err, inl, inr, sym, ap, subst, ◌∙◌, arith}
-use Rattle.std.specs.Prelude.{IfSome, IfOk, decimal}
+use Rattle.std.proofs.Common.{◌≡◌, ℕ, ◌+◌, ◌*◌, ◌≤◌, List, length, codes, Option, Some, None, inl, inr, ap, subst, arith}
+use Rattle.std.specs.Prelude.{IfSome, decimal}
 use Rattle.std.proofs.lemmas.Fmt.{decimal_injective}
 use Rattle.xn_bytes.specs.declared.status.Status.{Status}
-use Rattle.xn_bytes.specs.declared.status.Status.TheVariants.{Done, Image}
 use Rattle.xn_bytes.specs.Escapes.{escaped}
 use Rattle.xn_bytes.specs.Superblock.{Geometry}
 use Rattle.xn_bytes.specs.Words.{AsksList, AsksResolve, AsksNothing}
@@ -11,17 +10,14 @@ use Rattle.xn_bytes.specs.Paths.{parts_of}
 use Rattle.xn_bytes.specs.NameSpace.{End}
 use Rattle.xn_bytes.specs.Outcome.{Answers, Reads, geometry_in}
 use Rattle.xn_bytes.specs.Inode.{inode_of}
+use Rattle.xn_bytes.specs.Reading.{IsAttached}
 use Rattle.xn_bytes.specs.Costs.{list_cost}
 use Rattle.xn_bytes.proofs.EscapeLemmas.{one_text}
 use Rattle.xn_text.specs.declared.words.Words.{Words}
 use Rattle.xn_text.specs.declared.words.Words.TheVariants as commands
 use Rattle.xn_text.specs.Asked.{AsksFor}
-use Rattle.xn_text.specs.declared.reply.Reply.{Reply}
-use Rattle.xn_ns.specs.declared.fault.SeeFault.{SeeFault}
-use Rattle.xn_ns.specs.declared.fault.SeeFault.TheVariants as see
-use Rattle.xn_ns.specs.Ends.{end_of}
 use Rattle.xfsns.specs.Home.{FindsSuper}
-use Rattle.xfsns.specs.Answer.{EndsWith, IsAnswerTo, ReadsFor, ReadsAtMost, ListReads, ResolveReads}
+use Rattle.xfsns.specs.Answer.{EndsWith, IsAnswerTo, ReadsFor, ReadsAtMost, ListReads, RefusedReads, ResolveReads}
 
 -- the answer to an end that a command has over the image whose superblock was found
 pub over_image : (E : Geometry → List ℕ → End → Type 0) (image : Option (List ℕ)) (g : Geometry) (ended : Option End) (status : Status) (text : List ℕ)
@@ -73,37 +69,43 @@ walk_later : (extra first between now : ℕ) → between ≤ first + 1 → now �
 walk_later extra first between now one few = omega (arith, one, few)
 
 later : (command : Words) (g : Geometry) (x : List ℕ) (first between now : ℕ) → between ≤ first + 1 → ReadsAtMost command g x between now → ReadsAtMost command g x (first + 1) now
-later (commands.List ino) g x first between now one few = list_later (list_cost (inode_of g x ino)) first between now one few
+later (commands.List ino) g x first between now one few = (list_later (list_cost (inode_of g x ino)) first between now one few.0, λ other. let once = few.1 other in omega (arith, one, once))
 later (commands.Resolve path) g x first between now one few = λ most bound. walk_later ((1 + most) * length (parts_of path)) first between now one (few most bound)
 
--- what a command reads over the image whose superblock was found, where it is answered as done
-pub reads_over_image : (command : Words) (image : Option (List ℕ)) (g : Geometry) (ended : Result Reply SeeFault) (status : Status) (text : List ℕ) (first between now : ℕ)
-    → FindsSuper image (Some g) → between ≤ first + 1 → IfOk ended (λ _. IfSome image (λ x. ReadsAtMost command g x between now)) → IsAnswerTo (end_of ended) status text
-    → status ≡ Done → IfSome image (λ x. ReadsAtMost command (geometry_in x) x (first + 1) now)
-reads_over_image command None g ended status text first between now found one few answer done = tt
-reads_over_image command (Some x) g (Ok reply) status text first between now found one few answer done =
-    later command (geometry_in x) x first between now one (subst (λ (h : Geometry). ReadsAtMost command h x between now) found.1 few)
-reads_over_image command (Some x) g (Err see.Read) status text first between now found one few answer done = absurd answer
-reads_over_image command (Some x) g (Err see.Memory) status text first between now found one few answer done = absurd answer
-reads_over_image command (Some x) g (Err (see.Broken rule inode block)) status text first between now found one few answer done =
-    let is : Image ≡ Done = sym answer.0 ∙ done in
-    absurd cc
+-- what a command reads over the image whose superblock was found
+pub reads_over_image : (command : Words) (image : Option (List ℕ)) (g : Geometry) (first between now : ℕ) → FindsSuper image (Some g) → between ≤ first + 1
+    → IfSome image (λ x. ReadsAtMost command g x between now) → IfSome image (λ x. ReadsAtMost command (geometry_in x) x (first + 1) now)
+reads_over_image command None g first between now found one few = tt
+reads_over_image command (Some x) g first between now found one few = later command (geometry_in x) x first between now one (subst (λ (h : Geometry). ReadsAtMost command h x between now) found.1 few)
 
 two_more : (extra before now : ℕ) → now ≤ before + 1 + 1 + extra → now ≤ before + 2 + extra
 two_more extra before now few = omega (arith, few)
 
+-- a list, and one that is refused
 list_reads : (image : Option (List ℕ)) (ino before now : ℕ) → IfSome image (λ x. ReadsAtMost (commands.List ino) (geometry_in x) x (before + 1) now) → ListReads image ino before now
 list_reads None ino before now few = tt
-list_reads (Some x) ino before now few = two_more (list_cost (inode_of (geometry_in x) x ino)) before now few
+list_reads (Some x) ino before now few = two_more (list_cost (inode_of (geometry_in x) x ino)) before now few.0
+
+refused_reads : (image : Option (List ℕ)) (ino before now : ℕ) → IfSome image (λ x. ReadsAtMost (commands.List ino) (geometry_in x) x (before + 1) now) → RefusedReads image ino before now
+refused_reads None ino before now few = tt
+refused_reads (Some x) ino before now few = λ other. let once = few.1 other in omega (arith, once)
+
+-- what was asked of a list
+pub asked_list : (g : Geometry) (image : Option (List ℕ)) (ino before now : ℕ) → IfSome image (λ x. now ≤ before + 1 + list_cost (inode_of g x ino))
+    → IfSome image (λ x. (IsAttached g (inode_of g x ino) ino → ⊥) → now ≤ before + 1) → IfSome image (λ x. ReadsAtMost (commands.List ino) g x before now)
+asked_list g None ino before now few refused = tt
+asked_list g (Some x) ino before now few refused = (few, refused)
 
 -- what the command that was read reads at most is what the words allow
 pub reads_for : (words : List (List ℕ)) (command : Words) (image : Option (List ℕ)) (before now : ℕ)
     → AsksFor words command → IfSome image (λ x. ReadsAtMost command (geometry_in x) x (before + 1) now) → ReadsFor words image before now
 reads_for words (commands.List ino) image before now asks few = record {
   list = λ other also. subst (λ (n : ℕ). ListReads image n before now) (one_number words ino other asks also) (list_reads image ino before now few);
+  refused = λ other also. subst (λ (n : ℕ). RefusedReads image n before now) (one_number words ino other asks also) (refused_reads image ino before now few);
   resolve = λ path also. absurd (not_both words ino path asks also);
 }
 reads_for words (commands.Resolve path) image before now asks few = record {
   list = λ ino also. absurd (not_both words ino path also asks);
+  refused = λ ino also. absurd (not_both words ino path also asks);
   resolve = λ other also. subst (λ (p : List ℕ). ResolveReads image p before now) (one_path words path other asks also) few;
 }

@@ -72,9 +72,3 @@ is_outcome words before now status text told faults result answer same later end
       } in
       subst (Outcome words before now) (sym front.0) fails
 ]
-
--- what is done was answered as done
-pub told_done : (told now : Option (List ℕ)) (before later : ℕ) (status result : Status) (text : List ℕ)
-    → ((result ≡ status) × (now ≡ option_map (λ t. t ++ text) told)) ⊎ ((result ≡ SayFault) × Rose before later × TellsFront told now text) → result ≡ Done → status ≡ Done
-told_done told now before later status result text ends done =
-    elim ends [ inl whole ↦ sym whole.0 ∙ done | inr front ↦ let is : SayFault ≡ Done = sym front.0 ∙ done in absurd cc ]

@@ -8,7 +8,7 @@ use Rattle.xn_bytes.specs.Paths.{parts_of}
 use Rattle.xn_bytes.specs.NameSpace.{End}
 use Rattle.xn_bytes.specs.Inode.{inode_of}
 use Rattle.xn_bytes.specs.Costs.{list_cost}
-use Rattle.xn_bytes.specs.Reading.{ListEnds, ResolveEnds}
+use Rattle.xn_bytes.specs.Reading.{ListEnds, ResolveEnds, IsAttached}
 use Rattle.xn_bytes.specs.Outcome.{AsksToRead, end_status, end_text, geometry_in}
 use Rattle.xn_text.specs.declared.words.Words.{Words}
 use Rattle.xn_text.specs.declared.words.Words.TheVariants as commands
@@ -23,23 +23,28 @@ abbrev pub EndsWith : Words → Geometry → List ℕ → End → Type 0
 EndsWith (commands.List ino) g = ListEnds g ino
 EndsWith (commands.Resolve path) g = ResolveEnds g path
 
--- What a command that has a reply reads over an image, once the superblock is read: for a list a look at the inode, and what
--- the list costs; for a walk, by a bound on each look-up, one look and one look-up for each part.
+-- What a command reads over an image, once the superblock is read: for a list a look at the inode, and, where it is that of
+-- an attached directory, what the list costs; for a walk, by a bound on each look-up, one look and one look-up for each part.
 abbrev pub ReadsAtMost : Words → Geometry → List ℕ → ℕ → ℕ → Type 0
-ReadsAtMost (commands.List ino) g image before now = now ≤ before + 1 + list_cost (inode_of g image ino)
-ReadsAtMost (commands.Resolve path) g image before now = (most : ℕ) → CostsAtMost g image most → now ≤ before + (1 + most) * length (parts_of path)
+ReadsAtMost (commands.List ino) g image before now =
+    (now ≤ before + 1 + list_cost (inode_of g image ino)) × (¬ IsAttached g (inode_of g image ino) ino → now ≤ before + 1)
+ReadsAtMost (commands.Resolve path) g image before now = (most : ℕ) → CostsAtMost g image path most → now ≤ before + (1 + most) * length (parts_of path)
 
 -- the same with the read of the superblock, where an image is told
 abbrev pub ListReads : Option (List ℕ) → ℕ → ℕ → ℕ → Type 0
 ListReads image ino before now = IfSome image (λ x. now ≤ before + 2 + list_cost (inode_of (geometry_in x) x ino))
 
+abbrev pub RefusedReads : Option (List ℕ) → ℕ → ℕ → ℕ → Type 0
+RefusedReads image ino before now = IfSome image (λ x. ¬ IsAttached (geometry_in x) (inode_of (geometry_in x) x ino) ino → now ≤ before + 2)
+
 abbrev pub ResolveReads : Option (List ℕ) → List ℕ → ℕ → ℕ → Type 0
 ResolveReads image path before now =
-    IfSome image (λ x. (most : ℕ) → CostsAtMost (geometry_in x) x most → now ≤ before + 1 + (1 + most) * length (parts_of path))
+    IfSome image (λ x. (most : ℕ) → CostsAtMost (geometry_in x) x path most → now ≤ before + 1 + (1 + most) * length (parts_of path))
 
--- The reads of a call that is done, by its words.
+-- The reads of a call, by its words.
 pub record ReadsFor (words : List (List ℕ)) (image : Option (List ℕ)) (before now : ℕ) : Type 0 where
   pub list : (ino : ℕ) → AsksList words ino → ListReads image ino before now
+  pub refused : (ino : ℕ) → AsksList words ino → RefusedReads image ino before now
   pub resolve : (path : List ℕ) → AsksResolve words path → ResolveReads image path before now
 
 -- ---- the answers

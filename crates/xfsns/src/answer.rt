@@ -5,7 +5,6 @@ ghost use Rattle.xn_bytes.specs.Causes.{Rose};
 ghost use Rattle.xn_bytes.specs.Outcome.{Answers, Reads, geometry_in};
 ghost use Rattle.xn_bytes.specs.Replies.{reply_text};
 ghost use Rattle.xn_bytes.specs.Words.{AsksNothing};
-ghost use Rattle.xn_bytes.specs.declared.status.Status.TheVariants.{Done};
 ghost use Rattle.xn_machine.specs.Frames.{MachineStays};
 ghost use Rattle.xn_ns.specs.Ends.{end_of};
 ghost use Rattle.xn_text.specs.Viewed.{reply_of};
@@ -58,7 +57,7 @@ pub fn answer_words<M: Machine>(
     machine: &mut M,
 ) -> Result<Answer, Fault>
     ensures stays { MachineStays M.Machine machine.old machine.new }
-    ensures reads { IfOk result (λ answer. answer.status ≡ Done → ReadsFor (map string_bytes words.now) (M.image machine.old) (M.reads machine.old) (M.reads machine.new)) }
+    ensures reads { ReadsFor (map string_bytes words.now) (M.image machine.old) (M.reads machine.old) (M.reads machine.new) }
     ensures reads_nothing { AsksNothing (map string_bytes words.now) → M.reads machine.new ≡ M.reads machine.old }
     ensures answer { IfOk result (λ answer. Answers (map string_bytes words.now) (M.image machine.old) answer.status answer.text.items) }
     ensures cause { IfErr result (HasReadCause (map string_bytes words.now) (M.read_faults machine.old) (M.read_faults machine.new)) }
@@ -80,7 +79,7 @@ fn answer_command<M: Machine>(
     command: &Words,
 ) -> Result<Answer, Fault>
     ensures stays { MachineStays M.Machine machine.old machine.new }
-    ensures reads { IfOk result (λ answer. answer.status ≡ Done → IfSome (M.image machine.old) (λ x. ReadsAtMost command.now (geometry_in x) x (M.reads machine.old + 1) (M.reads machine.new))) }
+    ensures reads { IfSome (M.image machine.old) (λ x. ReadsAtMost command.now (geometry_in x) x (M.reads machine.old + 1) (M.reads machine.new)) }
     ensures answer { IfOk result (λ answer. Reads (EndsWith command.now) (M.image machine.old) answer.status answer.text.items) }
     ensures cause { IfErr result (λ fault. fault ≡ Read → Rose (M.read_faults machine.old) (M.read_faults machine.new)) }
 {

@@ -42,7 +42,7 @@ pub fn ask_image<M: Machine>(
 ) -> Result<Reply, SeeFault>
     requires { IsSeen (home_view geometry.now) (M.image machine.old) (M.sector_count machine.old) (M.read_faults machine.old) (M.reads machine.old) }
     ensures stays { MachineStays M.Machine machine.old machine.new }
-    ensures reads { IfOk result (λ _. IfSome (M.image machine.old) (λ x. ReadsAtMost command.now geometry.now x (M.reads machine.old) (M.reads machine.new))) }
+    ensures reads { IfSome (M.image machine.old) (λ x. ReadsAtMost command.now geometry.now x (M.reads machine.old) (M.reads machine.new)) }
     ensures answered { Answered (EndsWith command.now geometry.now) (M.image machine.old) (M.read_faults machine.old) (M.read_faults machine.new) result }
 {
     let mut view = View::home(alloc, geometry);
@@ -58,7 +58,7 @@ fn ask<S: Store>(alloc: Global, store: &mut S, command: &Words) -> Result<Reply,
     requires { S.IsWhole store.old }
     ensures answered { Answered (EndsWith command.now (S.shape store.old)) (S.image store.old) (S.faults store.old) (S.faults store.new) result }
     ensures stays { StoreStays S.Store store.old store.new }
-    ensures fetches { IfOk result (λ _. IfSome (S.image store.old) (λ x. ReadsAtMost command.now (S.shape store.old) x (S.fetches store.old) (S.fetches store.new))) }
+    ensures fetches { IfSome (S.image store.old) (λ x. ReadsAtMost command.now (S.shape store.old) x (S.fetches store.old) (S.fetches store.new)) }
 {
     match command {
         Words::List { ino } => list(alloc, store, *ino),

@@ -4,8 +4,8 @@ ghost use Rattle.std.specs.Prelude.{◌≡◌, ℕ, ◌+◌, ◌*◌, ◌≤◌,
 ghost use Rattle.xn_bytes.specs.Outcome.{Outcome, geometry_in, outside_of};
 ghost use Rattle.xn_bytes.specs.Paths.{parts_of};
 ghost use Rattle.xn_bytes.specs.Inode.{inode_of};
+ghost use Rattle.xn_bytes.specs.Reading.{IsAttached};
 ghost use Rattle.xn_bytes.specs.Costs.{list_cost};
-ghost use Rattle.xn_bytes.specs.declared.status.Status.TheVariants.{Done};
 ghost use Rattle.xn_ns.specs.Costs.{CostsAtMost};
 ghost use Rattle.xn_bytes.specs.Words.{AsksList, AsksResolve, AsksNothing};
 ghost use Rattle.xfsns.specs.Top.{TellsOrFails};
@@ -41,10 +41,12 @@ pub fn xfsns<M: Machine, F: Source, S: Source>(
     ensures write_faults { M.write_faults machine.old ≤ M.write_faults machine.new }
     ensures say_faults { M.say_faults machine.old ≤ M.say_faults machine.new }
 
-    // Where all is done, a list reads the superblock, the inode twice, and the directory's blocks once each; a path reads
-    // the superblock and, for each part, the inode and what a look-up costs.
-    ensures reads_list { (ino : ℕ) → AsksList (map string_bytes words.now) ino → result ≡ Done → IfSome (M.image machine.old) (λ x. M.reads machine.new ≤ M.reads machine.old + 2 + list_cost (inode_of (geometry_in x) x ino)) }
-    ensures reads_resolve { (path : List ℕ) → AsksResolve (map string_bytes words.now) path → result ≡ Done → IfSome (M.image machine.old) (λ x. (most : ℕ) → CostsAtMost (geometry_in x) x most → M.reads machine.new ≤ M.reads machine.old + 1 + (1 + most) * length (parts_of path)) }
+    // Whatever the status is, a list reads the superblock, the inode twice, and the directory's blocks once each at most, and of
+    // what is no attached directory the inode once; a path the superblock and, for each part, the inode and what a look-up
+    // costs.
+    ensures reads_list { (ino : ℕ) → AsksList (map string_bytes words.now) ino → IfSome (M.image machine.old) (λ x. M.reads machine.new ≤ M.reads machine.old + 2 + list_cost (inode_of (geometry_in x) x ino)) }
+    ensures reads_refused { (ino : ℕ) → AsksList (map string_bytes words.now) ino → IfSome (M.image machine.old) (λ x. ¬ IsAttached (geometry_in x) (inode_of (geometry_in x) x ino) ino → M.reads machine.new ≤ M.reads machine.old + 2) }
+    ensures reads_resolve { (path : List ℕ) → AsksResolve (map string_bytes words.now) path → IfSome (M.image machine.old) (λ x. (most : ℕ) → CostsAtMost (geometry_in x) x path most → M.reads machine.new ≤ M.reads machine.old + 1 + (1 + most) * length (parts_of path)) }
     ensures reads_nothing { AsksNothing (map string_bytes words.now) → M.reads machine.new ≡ M.reads machine.old }
 
     // The sources are not read.

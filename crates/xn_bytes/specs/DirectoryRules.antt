@@ -9,7 +9,7 @@ use Rattle.xn_bytes.specs.Extents.{Run, mapped}
 use Rattle.xn_bytes.specs.Entries.{Entry}
 use Rattle.xn_bytes.specs.ShortDirectory.{ShortForm, ShortHolds}
 use Rattle.xn_bytes.specs.DataBlock.{DataForm, LeafEntry, entries_among}
-use Rattle.xn_bytes.specs.Trees.{TreeHolds}
+use Rattle.xn_bytes.specs.Trees.{FailsFor}
 use Rattle.xn_bytes.specs.Directory.{HasShortSize, short_bytes_of, HasNames}
 use Rattle.xn_bytes.specs.DirectoryForms.{HasExtentLists, IsBlockForm, IsLeafForm, IsDataNumber, data_runs_of, HasBlocksSize, HoldsFirst, HasDots, HasTail, IsIndexOf}
 use Rattle.xn_bytes.specs.LeafForms.{DirFork, Placed, IsPlaced, HasData, HasLeaves, BreaksLeaves, AreLeavesOf, HasBests, IsInBlocks, data_fork_in, entries_placed, all_entries, with_first, tree_in}
@@ -93,10 +93,10 @@ abbrev pub BreaksBlocks : Geometry → ℕ → List ℕ → (ℕ → List ℕ) �
 BreaksBlocks g dir inode blocks rule block =
     IsInBlocks inode × OrBreaks rule block 15 0 (HasBlocksSize inode) (BreaksHashed (data_fork_in g dir inode blocks) rule block)
 
--- the leaf entries are wrong: in leaf form the leaf is named, in node form some block
+-- The leaf entries are wrong: in leaf form the leaf is named, in node form the first block that fails on the way of a hash.
 abbrev pub FailsLeaves : DirFork → ℕ → Type 0
 FailsLeaves d block =
-    (IsLeafForm d.runs × BreaksLeaves d block) ⊎ (¬ IsLeafForm d.runs × ((live : List LeafEntry) → ¬ TreeHolds (tree_in d) live))
+    (IsLeafForm d.runs × BreaksLeaves d block) ⊎ (¬ IsLeafForm d.runs × ((hash : ℕ) × FailsFor (tree_in d) hash block))
 
 -- the leaf entries aren't those of the entries, where all data blocks and leaves are right
 abbrev pub FailsIndex : DirFork → Type 0

@@ -55,6 +55,11 @@ pub record DirLeafHolds (bytes : List ℕ) (live : List LeafEntry) : Type 0 wher
   pub leaf : IsDirLeaf bytes
   pub are : live ≡ filter is_live (dir_leaves bytes)
 
+-- the same, the stale ones among them
+pub record DirLeafCounts (bytes : List ℕ) (leaves : List LeafEntry) : Type 0 where
+  pub leaf : IsDirLeaf bytes
+  pub are : leaves ≡ dir_leaves bytes
+
 -- the hash of the last of leaf entries
 abbrev pub last_leaf_hash : LeafEntry → List LeafEntry → ℕ
 last_leaf_hash leaf [] = leaf.hash

@@ -9,7 +9,7 @@ use Rattle.xn_bytes.specs.Inode.{extents_format}
 use Rattle.xn_bytes.specs.Extents.{Run, mapped}
 use Rattle.xn_bytes.specs.Entries.{Entry}
 use Rattle.xn_bytes.specs.DataBlock.{DataForm, LeafEntry, entries_among, gaps_among, greatest}
-use Rattle.xn_bytes.specs.HashedTree.{DirLeafHolds, LeafTailHolds, FreeForm, FreeHolds, dir_leaf_ends, single_leaf_magic, leaf_file_block, free_file_block, no_best, best_at}
+use Rattle.xn_bytes.specs.HashedTree.{DirLeafHolds, DirLeafCounts, LeafTailHolds, FreeForm, FreeHolds, dir_leaf_ends, single_leaf_magic, leaf_file_block, free_file_block, no_best, best_at}
 use Rattle.xn_bytes.specs.Trees.{Tree, IsOwnBlock, TreeHolds, BreaksAt, magic_in, left_in, right_in}
 use Rattle.xn_bytes.specs.DirectoryForms.{IsBlockForm, IsLeafForm, IsDataNumber, IsGreatestData, IsDataBlockOf, HasBlocksSize, HasDots, data_runs_of, leaf_of}
 
@@ -75,14 +75,22 @@ pub record IsSingleLeaf (g : Geometry) (owner block : ℕ) (bytes : List ℕ) (l
 abbrev pub HasSingleLeaf : DirFork → ℕ → List LeafEntry → Type 0
 HasSingleLeaf d block live = IsSingleLeaf d.geometry d.owner block (d.blocks block) live
 
--- the tree of node form
-abbrev pub tree_in : DirFork → Tree LeafEntry
-tree_in d = record {
-  HoldsLeaf = DirLeafHolds;
+-- the tree of node form, by what its leaves hold
+abbrev pub tree_by : (List ℕ → List LeafEntry → Type 0) → DirFork → Tree LeafEntry
+tree_by Holds d = record {
+  HoldsLeaf = Holds;
   ends_of_leaf = dir_leaf_ends;
   fork = record { geometry = d.geometry; owner = d.owner; is_attribute = false; runs = d.runs; root = leaf_file_block };
   blocks = d.blocks;
 }
+
+-- its leaf entries are those that aren't stale
+abbrev pub tree_in : DirFork → Tree LeafEntry
+tree_in d = tree_by DirLeafHolds d
+
+-- or all of them, stale ones counted
+abbrev pub counted_tree_in : DirFork → Tree LeafEntry
+counted_tree_in d = tree_by DirLeafCounts d
 
 -- Rule 18 of a directory in leaf or node form: these leaf entries stand in the single leaf, or in the leaves of the tree from
 -- left to right.

@@ -274,3 +274,46 @@ has_none (child ∷ others) = false
 -- how many leaves, among blocks, end with a hash, stale entries counted
 abbrev pub leaves_to : {E : Type 0} → ℕ → List (Held E) → ℕ
 leaves_to hash helds = count_by (λ held. has_none held.children && ends_at hash held.ends) helds
+
+-- ---- a look-up
+
+-- the block of a visit stands, whatever stands before it
+abbrev pub StandsBy : {E : Type 0} → Tree E → Visit → Held E → Type 0
+StandsBy tree visit held = StandsAlone tree.HoldsLeaf tree.ends_of_leaf tree.fork (bytes_at tree visit.file_block) visit held
+
+-- of the block on the right nothing is asked but where it is
+abbrev pub right_of : Met → Visit
+right_of left = record { file_block = left.right; asked = None }
+
+-- a leaf stands on the right of those that were met
+abbrev pub StandsRight : {E : Type 0} → Tree E → List Met → Visit → Held E → Type 0
+StandsRight tree met visit held = (level_in (bytes_at tree visit.file_block) ≡ 0) × Stands tree met visit held
+
+-- entries of a hash can be behind a leaf: it has one on its right, and no greater hash
+pub record GoesRight (hash : ℕ) (left : Met) : Type 0 where
+  pub some : left.right ≢ 0
+  pub low : left.last ≤ hash
+
+-- Behind a leaf and those that were met before it the way along its right siblings goes on through leaves that hold these
+-- things, and then comes to the first block that fails.
+abbrev pub FollowsToFault : {E : Type 0} → Tree E → ℕ → List (Held E) → Met → List Met → ℕ → Type 0
+FollowsToFault {E} tree hash [] left met block =
+    GoesRight hash left × (block ≡ block_number tree.fork left.right) × ((held : Held E) → ¬ StandsRight tree (left ∷ met) (right_of left) held)
+FollowsToFault tree hash (held ∷ others) left met block =
+    GoesRight hash left × StandsRight tree (left ∷ met) (right_of left) held
+    × FollowsToFault tree hash others (met_with (bytes_at tree left.right) (right_of left) held.ends) (left ∷ met) block
+
+-- From a visit the way to a hash goes down through blocks that hold these things, and then along the right siblings of the
+-- leaf, to the first block that fails.
+abbrev pub SeeksToFault : {E : Type 0} → Tree E → ℕ → List (Held E) → Visit → ℕ → Type 0
+SeeksToFault {E} tree hash [] visit block = (block ≡ block_number tree.fork visit.file_block) × ((held : Held E) → ¬ StandsBy tree visit held)
+SeeksToFault tree hash (held ∷ others) visit block =
+    StandsBy tree visit held
+    × (((child : Child) × (siblings : List Child) × (held.children ≡ child ∷ siblings)
+    × SeeksToFault tree hash others (visit_to (level_in (bytes_at tree visit.file_block)) (child_for hash child siblings)) block)
+    ⊎ ((held.children ≡ []) × FollowsToFault tree hash others (met_with (bytes_at tree visit.file_block) visit held.ends) [] block))
+
+-- the tree is none, and this block is the first that fails on the way of a hash
+abbrev pub FailsFor : {E : Type 0} → Tree E → ℕ → ℕ → Type 0
+FailsFor {E} tree hash block =
+    ((helds : List (Held E)) → ¬ IsTree tree helds) × ((helds : List (Held E)) × SeeksToFault tree hash helds (root_visit tree.fork) block)

@@ -6,19 +6,18 @@ use Rattle.std.proofs.lemmas.Bool.Decides.{eqb_tells}
 use Rattle.std.proofs.lemmas.Grind.{flat_map-append}
 use Rattle.std.proofs.lemmas.List.Sums.{sum_by-cons, sum_by-append}
 use Rattle.xn_bytes.specs.HashedTree.{Child}
-use Rattle.xn_bytes.specs.Trees.{Tree, Held, Met, Visit, Stands, Walks, IsTree, TreeHolds, IsBeside, entries_in, left_on, met_with, visits_below, bytes_at, level_in, left_in, last_of}
+use Rattle.xn_bytes.specs.Trees.{Tree, Held, Met, Visit, Stands, Walks, IsTree, TreeHolds, IsBeside, entries_in, left_on, met_with, visits_below, bytes_at, level_in, left_in, last_of, block_number, right_of, FailsFor, GoesRight, FollowsToFault, TreeFork, levels_of_tree}
 use Rattle.xn_inode.specs.declared.store.Store.{Ghosts}
 use Rattle.xn_inode.specs.declared.fork_fault.ForkFault.{ForkFault}
-use Rattle.xn_inode.specs.declared.fork_fault.ForkFault.TheVariants.{Read, Memory, Broken}
 use Rattle.xn_inode.specs.Frames.{StoreStays}
 use Rattle.xn_datree.specs.declared.fork.Fork.{Fork}
-use Rattle.xn_datree.specs.Forks.{IsTreeFault}
+use Rattle.xn_datree.specs.Forks.{tree_fork, IsTreeFault}
 use Rattle.xn_datree.specs.Finding.{ComesDown, IsNoLeaf}
 use Rattle.xn_bytes.specs.Trees.{ends_at, has_none, leaves_to}
 use Rattle.xn_datree.proofs.Trails.{level_is}
-use Rattle.xn_datree.proofs.Walking.{over_one, over_two}
+use Rattle.xn_datree.proofs.Walking.{over_one, over_two, over_three}
 use Rattle.xn_datree.proofs.Passing.{LeafLaws, level_of_leaf}
-use Rattle.xn_datree.proofs.Descents.{held_once}
+use Rattle.xn_datree.proofs.Descents.{held_once, fault_over, FollowsOn}
 use Rattle.xn_datree.proofs.Leaves.{later_high, next_leaf}
 
 -- ---- entries of one hash
@@ -60,10 +59,6 @@ all_tail file_block one rest all = λ k d below. all (suc k) d (omega arith)
 all_cons : (file_block : ℕ) (one : Met) (rest : List Met) → one.file_block ≢ file_block → All (λ one. one.file_block ≢ file_block) rest → All (λ one. one.file_block ≢ file_block) (one ∷ rest)
 all_cons file_block one rest here there zero d below = here
 all_cons file_block one rest here there (suc k) d below = there k d (omega arith)
-
--- the right sibling, of which nothing is asked but where it is
-abbrev pub right_of : Met → Visit
-right_of left = record { file_block = left.right; asked = None }
 
 module _ {E : Type 0} (tree : Tree E) (hash : E → ℕ) (limit : ℕ) where
   -- The blocks that were passed have what was found; the last of them is a leaf; and each block of the trail was met.
@@ -170,6 +165,14 @@ module _ {E : Type 0} (tree : Tree E) (hash : E → ℕ) (limit : ℕ) where
   pub chain_reads : (helds : List (Held E)) (found : List E) (trail : List Met) (left : Met) → ChainAt helds found trail left → length trail ≤ leaves_to limit helds
   chain_reads helds found trail left chain = let more = leaves_more chain.past chain.others in rw chain.split (omega (arith, chain.counted, more))
 
+  -- the leaf on the right was counted before it is read
+  pub chain_reads_next : (helds : List (Held E)) (found : List E) (trail : List Met) (left : Met) → left.right ≢ 0 → left.last ≤ limit → ChainAt helds found trail left → length trail + 1 ≤ leaves_to limit helds
+  chain_reads_next helds found trail left some low chain =
+      let reached = chain.side some in
+      let next = chain.next_counted some (omega (arith, reached, low)) in
+      let more = leaves_more chain.past chain.others in
+      rw chain.split (omega (arith, next, more))
+
   -- the leaf on the right stands behind the trail
   pub record Continues (helds : List (Held E)) (found : List E) (trail : List Met) (left : Met) : Type 0 where
     pub held : Held E
@@ -259,11 +262,21 @@ module _ {E : Type 0} (T : List ℕ → Tree E) (hash : E → ℕ) (laws : (x : 
       over_one (λ x. (helds : List (Held E)) → IsTree (T x) helds → ComesDown (T x) hash limit helds bytes file_block held) (ChainAll T hash limit found [] left) image
       (λ x d helds tree. chain_first (T x) hash limit (laws x) helds bytes file_block held visit found left at left_is found_are (d helds tree)) down
 
-  pub reads_over_last : (image : Option (List ℕ)) (found : List E) (trail : List Met) (left : Met) → IfSome image (ChainAll T hash limit found trail left)
-      → IfSome image (λ x. (helds : List (Held E)) → IsTree (T x) helds → length trail ≤ leaves_to limit helds)
-  reads_over_last image found trail left chain =
-      over_one (ChainAll T hash limit found trail left) (λ x. (helds : List (Held E)) → IsTree (T x) helds → length trail ≤ leaves_to limit helds) image
-      (λ x c helds tree. chain_reads (T x) hash limit helds found trail left (c helds tree)) chain
+  -- what was fetched, by the leaves that end with the hash, where the last leaf needs none behind it
+  pub few_over_last : (image : Option (List ℕ)) (found : List E) (trail : List Met) (left : Met) (before now : ℕ) → IfSome image (ChainAll T hash limit found trail left)
+      → IfSome image (λ x. now ≤ before + levels_of_tree (T x) + length trail)
+      → IfSome image (λ x. (helds : List (Held E)) → IsTree (T x) helds → now ≤ before + levels_of_tree (T x) + leaves_to limit helds)
+  few_over_last image found trail left before now chain few =
+      over_two (ChainAll T hash limit found trail left) (λ x. now ≤ before + levels_of_tree (T x) + length trail) (λ x. (helds : List (Held E)) → IsTree (T x) helds → now ≤ before + levels_of_tree (T x) + leaves_to limit helds) image
+      (λ x c so helds tree. let reads = chain_reads (T x) hash limit helds found trail left (c helds tree) in omega (arith, reads, so)) chain few
+
+  -- the same where the leaf on the right is read too
+  pub few_over_next : (image : Option (List ℕ)) (found : List E) (trail : List Met) (left : Met) (before mid now : ℕ) → left.right ≢ 0 → left.last ≤ limit → now ≤ mid + 1
+      → IfSome image (ChainAll T hash limit found trail left) → IfSome image (λ x. mid ≤ before + levels_of_tree (T x) + length trail)
+      → IfSome image (λ x. (helds : List (Held E)) → IsTree (T x) helds → now ≤ before + levels_of_tree (T x) + leaves_to limit helds)
+  few_over_next image found trail left before mid now some low one chain few =
+      over_two (ChainAll T hash limit found trail left) (λ x. mid ≤ before + levels_of_tree (T x) + length trail) (λ x. (helds : List (Held E)) → IsTree (T x) helds → now ≤ before + levels_of_tree (T x) + leaves_to limit helds) image
+      (λ x c so helds tree. let reads = chain_reads_next (T x) hash limit helds found trail left some low (c helds tree) in omega (arith, reads, so, one)) chain few
 
   pub chain_over_last : (image : Option (List ℕ)) (found : List E) (trail : List Met) (left : Met) → (left.right ≡ 0) ⊎ (limit < left.last)
       → IfSome image (ChainAll T hash limit found trail left) → IfSome image (FindsAll T hash limit found)
@@ -284,23 +297,39 @@ module _ {E : Type 0} (T : List ℕ → Tree E) (hash : E → ℕ) (laws : (x : 
       (now_is ∙ ap (λ (bs : List ℕ). met_with bs (right_of left) held.ends) read.0 ∙ ap (λ (h : Held E). met_with (bytes_at (T x) left.right) (right_of left) h.ends) same))
       (over_two (λ x. bytes ≡ bytes_at (T x) left.right) (λ x. Stands (T x) (left ∷ trail) (right_of left) held) (λ x. (bytes ≡ bytes_at (T x) left.right) × Stands (T x) (left ∷ trail) (right_of left) held) image (λ x b s. (b, s)) are stands) chain
 
--- the blocks are no tree
-abbrev pub NoTree : {E : Type 0} → (List ℕ → Tree E) → List ℕ → Type 0
-NoTree {E} T x = (helds : List (Held E)) → IsTree (T x) helds → ⊥
+-- the way down alone
+pub few_over_way : {E : Type 0} (T : List ℕ → Tree E) (limit : ℕ) (image : Option (List ℕ)) (before now : ℕ) → IfSome image (λ x. now ≤ before + levels_of_tree (T x))
+    → IfSome image (λ x. (helds : List (Held E)) → IsTree (T x) helds → now ≤ before + levels_of_tree (T x) + leaves_to limit helds)
+few_over_way {E} T limit image before now few =
+    over_one (λ x. now ≤ before + levels_of_tree (T x)) (λ x. (helds : List (Held E)) → IsTree (T x) helds → now ≤ before + levels_of_tree (T x) + leaves_to limit helds) image
+    (λ x so helds tree. omega (arith, so)) few
+
+-- the way along the right siblings goes on to the next leaf
+pub follows_over_on : {E : Type 0} (T : List ℕ → Tree E) (limit : ℕ) (image : Option (List ℕ)) (trail : List Met) (left now : Met) (held : Held E) (bytes : List ℕ) → left.right ≢ 0 → left.last ≤ limit
+    → level_in bytes ≡ 0 → now ≡ met_with bytes (right_of left) held.ends
+    → IfSome image (λ x. bytes ≡ bytes_at (T x) left.right) → IfSome image (λ x. Stands (T x) (left ∷ trail) (right_of left) held)
+    → IfSome image (FollowsOn T limit left trail) → IfSome image (FollowsOn T limit now (left ∷ trail))
+follows_over_on T limit image trail left now held bytes some low flat now_is are stands follows =
+    over_three (λ x. bytes ≡ bytes_at (T x) left.right) (λ x. Stands (T x) (left ∷ trail) (right_of left) held) (FollowsOn T limit left trail) (FollowsOn T limit now (left ∷ trail)) image
+    (λ x b s on others block more.
+    let goes : GoesRight limit left = record { some = some; low = low } in
+    let there : now ≡ met_with (bytes_at (T x) left.right) (right_of left) held.ends = now_is ∙ ap (λ (bs : List ℕ). met_with bs (right_of left) held.ends) b in
+    on (held ∷ others) block (goes, (ap level_in (sym b) ∙ flat, s), subst (λ (m : Met). FollowsToFault (T x) limit others m (left ∷ trail) block) there more)) are stands follows
 
 module _ {E S : Type 0} (store : Ghosts S) (T : List ℕ → Tree E) (fork : Fork) (hash : E → ℕ) (laws : (x : List ℕ) → LeafLaws (T x) hash) (limit : ℕ) where
   pub chain_fault : (found : List E) (trail : List Met) (left : Met) (old mid new : S) (fault : ForkFault) → left.right ≢ 0 → left.last ≤ limit
-      → StoreStays store old mid
-      → IfSome (store.image old) (ChainAll T hash limit found trail left)
-      → IsTreeFault store (λ x _. IsNoLeaf (T x) (left ∷ trail) (right_of left)) fork mid new fault
-      → IsTreeFault store (λ x _. NoTree T x) fork old new fault
-  chain_fault found trail left old mid new Read some low_last stays chain fails = let later = stays.faults_later in omega arith
-  chain_fault found trail left old mid new Memory some low_last stays chain fails = tt
-  chain_fault found trail left old mid new (Broken rule block) some low_last stays chain fails = (
-    fails.0,
-    over_two (λ x. IsNoLeaf (T x) (left ∷ trail) (right_of left)) (ChainAll T hash limit found trail left) (NoTree T) (store.image old)
-        (λ x f c helds tree.
-        let on = continues (T x) hash limit (laws x) helds found trail left some low_last (c helds tree) in
-        f on.held on.flat on.stands)
-        (subst (λ (i : Option (List ℕ)). IfSome i (λ x. IsNoLeaf (T x) (left ∷ trail) (right_of left))) stays.image_stays fails.1) chain,
-  )
+      → StoreStays store old mid → ((x : List ℕ) → tree_fork (store.shape old) fork ≡ (T x).fork)
+      → IfSome (store.image old) (ChainAll T hash limit found trail left) → IfSome (store.image old) (FollowsOn T limit left trail)
+      → IsTreeFault store (λ x block. (block ≡ block_number (tree_fork (store.shape old) fork) left.right) × IsNoLeaf (T x) (left ∷ trail) (right_of left)) fork mid new fault
+      → IsTreeFault store (λ x. FailsFor (T x) limit) fork old new fault
+  chain_fault found trail left old mid new fault some low_last stays forks chain follows fails =
+      let f = tree_fork (store.shape old) fork in
+      let P : List ℕ → ℕ → Type 0 = λ x block. (block ≡ block_number f left.right) × IsNoLeaf (T x) (left ∷ trail) (right_of left) in
+      fault_over store fork P (λ x. FailsFor (T x) limit) old mid new fault stays
+      (λ block there. over_three (ChainAll T hash limit found trail left) (FollowsOn T limit left trail) (λ x. P x block) (λ x. FailsFor (T x) limit block) (store.image old)
+      (λ x c on p.
+      let no_tree : (helds : List (Held E)) → IsTree (T x) helds → ⊥ = λ helds tree.
+      let next = continues (T x) hash limit (laws x) helds found trail left some low_last (c helds tree) in
+      p.1 next.held next.flat next.stands in
+      let goes : GoesRight limit left = record { some = some; low = low_last } in
+      (no_tree, on [] block (goes, subst (λ (t : TreeFork). block ≡ block_number t left.right) (forks x) p.0, λ held stands. p.1 held stands.0 stands.1))) chain follows there) fails

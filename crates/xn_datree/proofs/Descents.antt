@@ -7,7 +7,7 @@ use Rattle.std.proofs.lemmas.List.Elements.{All-append, All-map}
 use Rattle.std.proofs.lemmas.Grind.{flat_map-append}
 use Rattle.std.proofs.lemmas.List.{map-append}
 use Rattle.xn_bytes.specs.HashedTree.{Child}
-use Rattle.xn_bytes.specs.Trees.{Tree, TreeFork, Held, Met, Visit, Asked, Stands, StandsAlone, IsAsked, IsNode, HoldsBlock, Walks, IsTree, entries_in, met_with, visit_to, visits_below, bytes_at, block_number, level_in, last_of, last_hash, child_for, root_visit, ends_of_children}
+use Rattle.xn_bytes.specs.Trees.{Tree, TreeFork, Held, Met, Visit, Asked, Stands, StandsAlone, IsAsked, IsNode, HoldsBlock, Walks, IsTree, entries_in, met_with, visit_to, visits_below, bytes_at, block_number, level_in, last_of, last_hash, child_for, root_visit, ends_of_children, FollowsToFault, SeeksToFault, StandsBy, FailsFor}
 use Rattle.xn_inode.specs.declared.store.Store.{Ghosts}
 use Rattle.xn_inode.specs.declared.fork_fault.ForkFault.{ForkFault}
 use Rattle.xn_inode.specs.declared.fork_fault.ForkFault.TheVariants.{Read, Memory, Broken}
@@ -16,7 +16,7 @@ use Rattle.xn_datree.specs.declared.fork.Fork.{Fork}
 use Rattle.xn_datree.specs.Forks.{tree_fork, IsTreeFault}
 use Rattle.xn_datree.specs.Finding.{ComesDown}
 use Rattle.xn_datree.proofs.Measures.{level_of_node}
-use Rattle.xn_datree.proofs.Walking.{over_all, over_two}
+use Rattle.xn_datree.proofs.Walking.{over_all, over_two, over_three}
 use Rattle.xn_datree.proofs.Passing.{LeafLaws, level_of_other, IsLowVisit, node_of_level, pass_many, pass_one}
 
 -- ---- the child of a descent
@@ -52,6 +52,12 @@ node_with_children H ends bytes held child others holds children = elim holds [
   | inl leaf ↦ absurd (let e : child ∷ others ≡ [] = sym children ∙ leaf.1 in cc)
   | inr node ↦ node.0
 ]
+
+-- a block with children is no leaf
+pub some_level : {E : Type 0} (H : List ℕ → List E → Type 0) (ends : List ℕ → Option (ℕ × ℕ)) (bytes : List ℕ) (held : Held E) (child : Child) (others : List Child) → HoldsBlock H ends bytes held → held.children ≡ child ∷ others → 1 ≤ level_in bytes
+some_level H ends bytes held child others holds children =
+    let node = node_with_children H ends bytes held child others holds children in
+    omega (arith, level_of_node bytes held.children node, node.level)
 
 pub flat_without : {E : Type 0} (H : List ℕ → List E → Type 0) (ends : List ℕ → Option (ℕ × ℕ)) (bytes : List ℕ) (held : Held E) → HoldsBlock H ends bytes held → held.children ≡ [] → level_in bytes ≡ 0
 flat_without H ends bytes held holds children = elim holds [
@@ -280,11 +286,45 @@ module _ {E : Type 0} (T : List ℕ → Tree E) (hash : E → ℕ) (laws : (x : 
       let now = reads (T x) hash limit there.future there.met visit there.agenda there.goes in
       f now.held now.stands.alone) leads fails
 
+-- however the way of a hash goes on to a fault from this visit, it goes so from the root
+abbrev pub SeeksOn : {E : Type 0} → (List ℕ → Tree E) → ℕ → Visit → List ℕ → Type 0
+SeeksOn {E} T limit visit x = (others : List (Held E)) (block : ℕ) → SeeksToFault (T x) limit others visit block → (helds : List (Held E)) × SeeksToFault (T x) limit helds (root_visit (T x).fork) block
+
+-- the same from a leaf on, along its right siblings
+abbrev pub FollowsOn : {E : Type 0} → (List ℕ → Tree E) → ℕ → Met → List Met → List ℕ → Type 0
+FollowsOn {E} T limit left met x = (others : List (Held E)) (block : ℕ) → FollowsToFault (T x) limit others left met block → (helds : List (Held E)) × SeeksToFault (T x) limit helds (root_visit (T x).fork) block
+
+module _ {E : Type 0} (T : List ℕ → Tree E) (limit : ℕ) where
+  pub seeks_over_first : (image : Option (List ℕ)) (visit : Visit) → ((x : List ℕ) → root_visit (T x).fork ≡ visit) → IfSome image (SeeksOn T limit visit)
+  seeks_over_first image visit is =
+      over_all (SeeksOn T limit visit) image
+      (λ x others block seeks. (others, subst (λ (v : Visit). SeeksToFault (T x) limit others v block) (sym (is x)) seeks))
+
+  pub seeks_over_down : (image : Option (List ℕ)) (visit : Visit) (held : Held E) (bytes : List ℕ) (child : Child) (others : List Child) (next : Visit)
+      → ((x : List ℕ) → StandsAlone (T x).HoldsLeaf (T x).ends_of_leaf (T x).fork bytes visit held) → held.children ≡ child ∷ others → next ≡ visit_to (level_in bytes) (child_for limit child others)
+      → IfSome image (λ x. bytes ≡ bytes_at (T x) visit.file_block) → IfSome image (SeeksOn T limit visit) → IfSome image (SeeksOn T limit next)
+  seeks_over_down image visit held bytes child others next alone children to is seeks =
+      over_two (λ x. bytes ≡ bytes_at (T x) visit.file_block) (SeeksOn T limit visit) (SeeksOn T limit next) image
+      (λ x b on more block below.
+      let stands : StandsBy (T x) visit held = subst (λ (bs : List ℕ). StandsAlone (T x).HoldsLeaf (T x).ends_of_leaf (T x).fork bs visit held) b (alone x) in
+      let there : next ≡ visit_to (level_in (bytes_at (T x) visit.file_block)) (child_for limit child others) = to ∙ ap (λ (bs : List ℕ). visit_to (level_in bs) (child_for limit child others)) b in
+      on (held ∷ more) block (stands, inl (child, others, children, subst (λ (v : Visit). SeeksToFault (T x) limit more v block) there below))) is seeks
+
+  pub follows_over_leaf : (image : Option (List ℕ)) (visit : Visit) (held : Held E) (bytes : List ℕ)
+      → ((x : List ℕ) → StandsAlone (T x).HoldsLeaf (T x).ends_of_leaf (T x).fork bytes visit held) → held.children ≡ []
+      → IfSome image (λ x. bytes ≡ bytes_at (T x) visit.file_block) → IfSome image (SeeksOn T limit visit) → IfSome image (FollowsOn T limit (met_with bytes visit held.ends) [])
+  follows_over_leaf image visit held bytes alone children is seeks =
+      over_two (λ x. bytes ≡ bytes_at (T x) visit.file_block) (SeeksOn T limit visit) (FollowsOn T limit (met_with bytes visit held.ends) []) image
+      (λ x b on more block follows.
+      let stands : StandsBy (T x) visit held = subst (λ (bs : List ℕ). StandsAlone (T x).HoldsLeaf (T x).ends_of_leaf (T x).fork bs visit held) b (alone x) in
+      on (held ∷ more) block (stands, inr (children, subst (λ (bs : List ℕ). FollowsToFault (T x) limit more (met_with bs visit held.ends) [] block) b follows))) is seeks
+
 -- a descent has come to a block with these bytes
 pub record IsAt {E : Type 0} (T : List ℕ → Tree E) (H : List ℕ → List E → Type 0) (ends : List ℕ → Option (ℕ × ℕ)) (fork : TreeFork) (hash : E → ℕ) (limit : ℕ) (image : Option (List ℕ)) (bytes : List ℕ) (visit : Visit) (held : Held E) : Type 0 where
   pub alone : StandsAlone H ends fork bytes visit held
   pub is : IfSome image (λ x. bytes ≡ bytes_at (T x) visit.file_block)
   pub leads : IfSome image (λ x. LeadsAll T hash limit x visit)
+  pub seeks : IfSome image (SeeksOn T limit visit)
 
 -- the child's level is one less
 pub level_falls : {E : Type 0} (H : List ℕ → List E → Type 0) (ends : List ℕ → Option (ℕ × ℕ)) (fork : TreeFork) (bytes below : List ℕ) (visit next : Visit) (held now : Held E) (child : Child) (others : List Child) (hash : ℕ)
@@ -304,21 +344,47 @@ taken_among (child ∷ others) result taken hash none some is =
     let e : Some taken ≡ Some (child_for hash child others) = sym is ∙ some child others refl in
     (child, others, refl, cc)
 
+-- A fault that was answered behind calls that only read is one of all of them, where what it says over the image follows.
+pub fault_over : {S : Type 0} (store : Ghosts S) (fork : Fork) (P Q : List ℕ → ℕ → Type 0) (old mid new : S) (fault : ForkFault) → StoreStays store old mid
+    → ((block : ℕ) → IfSome (store.image old) (λ x. P x block) → IfSome (store.image old) (λ x. Q x block))
+    → IsTreeFault store P fork mid new fault → IsTreeFault store Q fork old new fault
+fault_over store fork P Q old mid new Read stays so fails = let later = stays.faults_later in omega arith
+fault_over store fork P Q old mid new Memory stays so fails = tt
+fault_over store fork P Q old mid new (Broken rule block) stays so fails =
+    (fails.0, so block (subst (λ (i : Option (List ℕ)). IfSome i (λ x. P x block)) stays.image_stays fails.1))
+
 module _ {E S : Type 0} (store : Ghosts S) (T : List ℕ → Tree E) (fork : Fork) (hash : E → ℕ) (limit : ℕ) where
+  -- the block that a visit names fails, whatever stands before it
+  abbrev pub FailsAlone : TreeFork → Visit → List ℕ → ℕ → Type 0
+  FailsAlone f visit x block = (block ≡ block_number f visit.file_block) × ((held : Held E) → StandsAlone (T x).HoldsLeaf (T x).ends_of_leaf (T x).fork (bytes_at (T x) visit.file_block) visit held → ⊥)
+
+  no_tree : (x : List ℕ) (visit : Visit) (f : TreeFork) (block : ℕ) → LeadsAll T hash limit x visit → FailsAlone f visit x block → (helds : List (Held E)) → IsTree (T x) helds → ⊥
+  no_tree x visit f block leads fails helds tree =
+      let there = leads helds tree in
+      let now = reads (T x) hash limit there.future there.met visit there.agenda there.goes in
+      fails.1 now.held now.stands.alone
+
   pub alone_fault : (visit : Visit) (old mid new : S) (fault : ForkFault)
-      → StoreStays store old mid
+      → StoreStays store old mid → ((x : List ℕ) → tree_fork (store.shape old) fork ≡ (T x).fork)
       → IfSome (store.image old) (λ x. LeadsAll T hash limit x visit)
-      → IsTreeFault store (λ x block. (block ≡ block_number (tree_fork (store.shape old) fork) visit.file_block) × ((held : Held E) → StandsAlone (T x).HoldsLeaf (T x).ends_of_leaf (T x).fork (bytes_at (T x) visit.file_block) visit held → ⊥)) fork mid new fault
-      → IsTreeFault store (λ x _. (helds : List (Held E)) → IsTree (T x) helds → ⊥) fork old new fault
-  alone_fault visit old mid new Read stays leads fails = let later = stays.faults_later in omega arith
-  alone_fault visit old mid new Memory stays leads fails = tt
-  alone_fault visit old mid new (Broken rule block) stays leads fails =
-      let there = subst (λ (i : Option (List ℕ)). IfSome i (λ x. (block ≡ block_number (tree_fork (store.shape old) fork) visit.file_block) × ((held : Held E) → StandsAlone (T x).HoldsLeaf (T x).ends_of_leaf (T x).fork (bytes_at (T x) visit.file_block) visit held → ⊥))) stays.image_stays fails.1 in (
-        fails.0,
-        over_two (λ x. LeadsAll T hash limit x visit) (λ x. (block ≡ block_number (tree_fork (store.shape old) fork) visit.file_block) × ((held : Held E) → StandsAlone (T x).HoldsLeaf (T x).ends_of_leaf (T x).fork (bytes_at (T x) visit.file_block) visit held → ⊥))
-            (λ x. (helds : List (Held E)) → IsTree (T x) helds → ⊥) (store.image old)
-            (λ x l f helds tree.
-            let there = l helds tree in
-            let now = reads (T x) hash limit there.future there.met visit there.agenda there.goes in
-            f.1 now.held now.stands.alone) leads there,
-      )
+      → IfSome (store.image old) (SeeksOn T limit visit)
+      → IsTreeFault store (FailsAlone (tree_fork (store.shape old) fork) visit) fork mid new fault
+      → IsTreeFault store (λ x. FailsFor (T x) limit) fork old new fault
+  alone_fault visit old mid new fault stays forks leads seeks fails =
+      let f = tree_fork (store.shape old) fork in
+      fault_over store fork (FailsAlone f visit) (λ x. FailsFor (T x) limit) old mid new fault stays
+      (λ block there. over_three (λ x. LeadsAll T hash limit x visit) (SeeksOn T limit visit) (λ x. FailsAlone f visit x block) (λ x. FailsFor (T x) limit block) (store.image old)
+      (λ x l s p. (no_tree x visit f block l p, s [] block (subst (λ (t : TreeFork). block ≡ block_number t visit.file_block) (forks x) p.0, p.1))) leads seeks there) fails
+
+  -- the root fails, and with it the tree
+  pub root_fault : (visit : Visit) (file_block : ℕ) (old mid new : S) (fault : ForkFault)
+      → StoreStays store old mid → visit.file_block ≡ file_block
+      → IfSome (store.image old) (λ x. LeadsAll T hash limit x visit)
+      → IsTreeFault store (FailsAlone (tree_fork (store.shape old) fork) visit) fork mid new fault
+      → IsTreeFault store (λ x block. (block ≡ block_number (tree_fork (store.shape old) fork) file_block) × ((helds : List (Held E)) → IsTree (T x) helds → ⊥)) fork old new fault
+  root_fault visit file_block old mid new fault stays at leads fails =
+      let f = tree_fork (store.shape old) fork in
+      let Q : List ℕ → ℕ → Type 0 = λ x block. (block ≡ block_number f file_block) × ((helds : List (Held E)) → IsTree (T x) helds → ⊥) in
+      fault_over store fork (FailsAlone f visit) Q old mid new fault stays
+      (λ block there. over_two (λ x. LeadsAll T hash limit x visit) (λ x. FailsAlone f visit x block) (λ x. Q x block) (store.image old)
+      (λ x l p. (p.0 ∙ ap (block_number f) at, no_tree x visit f block l p)) leads there) fails

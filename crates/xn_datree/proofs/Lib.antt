@@ -10,3 +10,5 @@ pub mod Descents
 pub mod Chains
 pub mod Ways
 pub mod Hashes
+pub mod Fetched
+pub mod Rooms

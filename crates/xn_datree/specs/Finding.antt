@@ -1,6 +1,6 @@
 -- Where a descent has come to.
 use Rattle.std.specs.Prelude.{◌≡◌, ◌⊎◌, ℕ, ◌<◌, ◌≤◌, List, [], ◌∷◌, ◌++◌, All, Some, IsSome}
-use Rattle.xn_bytes.specs.Trees.{Tree, Held, Met, Visit, Stands, Walks, entries_in, met_with, bytes_at, level_in}
+use Rattle.xn_bytes.specs.Trees.{Tree, Held, Met, Visit, FollowsToFault, SeeksToFault, Stands, Walks, entries_in, met_with, root_visit, bytes_at, level_in}
 
 -- Of a tree whose blocks hold these things, in the order of the walk: this file block, with these bytes, is a leaf and holds this;
 -- in front of it there are lesser hashes alone; and it reaches the hash, or nothing is left to be read behind it.
@@ -23,3 +23,9 @@ pub record ComesDown {E : Type 0} (tree : Tree E) (hash : E → ℕ) (limit : �
 -- no leaf stands there, behind those that were met
 abbrev pub IsNoLeaf : {E : Type 0} → Tree E → List Met → Visit → Type 0
 IsNoLeaf {E} tree met visit = (held : Held E) → level_in (bytes_at tree visit.file_block) ≡ 0 → ¬ Stands tree met visit held
+
+-- A leaf to which a descent has come: a fault of the way along its right siblings is one of the whole way.
+abbrev pub FollowsFrom : {E : Type 0} → Tree E → ℕ → List ℕ → Visit → Held E → Type 0
+FollowsFrom {E} tree hash bytes visit held =
+    (others : List (Held E)) (block : ℕ) → FollowsToFault tree hash others (met_with bytes visit held.ends) [] block
+    → (helds : List (Held E)) × SeeksToFault tree hash helds (root_visit tree.fork) block

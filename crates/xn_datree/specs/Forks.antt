@@ -1,9 +1,10 @@
 -- The fork that a tree is read through, as the definition of trees sees it, and what its faults say.
-use Rattle.std.specs.Prelude.{◌≡◌, ℕ, List, Option, IfSome}
+use Rattle.std.specs.Prelude.{◌≡◌, ◌≢◌, ◌⊎◌, ℕ, ◌+◌, ◌≤◌, List, length, All, AllPairs, Option, IfSome, IsSome, IsTrue}
 use Rattle.xn_bytes.specs.Causes.{Rose}
 use Rattle.xn_bytes.specs.Superblock.{Geometry}
 use Rattle.xn_bytes.specs.Blocks.{block_of}
-use Rattle.xn_bytes.specs.Trees.{TreeFork, Tree, block_number, tree_rule}
+use Rattle.xn_bytes.specs.Trees.{TreeFork, Tree, block_number, is_tree_number, tree_rule}
+use Rattle.xn_bytes.specs.Extents.{mapped}
 use Rattle.xn_inode.specs.declared.store.Store.{Ghosts}
 use Rattle.xn_inode.specs.declared.fork_fault.ForkFault.{ForkFault}
 use Rattle.xn_inode.specs.declared.fork_fault.ForkFault.TheVariants.{Read, Memory, Broken}
@@ -31,3 +32,11 @@ IsTreeFault store Breaks fork old new (Broken rule block) = (rule ≡ tree_rule 
 -- the same of one block, which the fault names
 abbrev pub IsVisitFault : {S : Type 0} → Ghosts S → (List ℕ → Type 0) → Fork → ℕ → S → S → ForkFault → Type 0
 IsVisitFault store Fails fork file_block old new = IsTreeFault store (λ x block. (block ≡ block_number (tree_fork (store.shape old) fork) file_block) × Fails x) fork old new
+
+-- at most one fetch for each of these file blocks, which are mapped, and the root's or such as the tree can have
+pub record FetchesBlocks (fork : Fork) (before now : ℕ) : Type 0 where
+  pub read : List ℕ
+  pub once : AllPairs (λ a b. a ≢ b) read
+  pub there : All (λ file_block. IsSome (mapped fork.extents file_block)) read
+  pub of_tree : All (λ file_block. (file_block ≡ fork.root) ⊎ IsTrue (is_tree_number fork.attribute file_block)) read
+  pub fetches : now ≤ before + length read

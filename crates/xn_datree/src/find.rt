@@ -1,10 +1,12 @@
 //! The entries of one hash: the descent to the first leaf that can have them, and its right siblings as long as they go on.
 
-ghost use Rattle.std.specs.Prelude.{◌≡◌, ◌↔◌, ◌++◌, ◌==◌, ◌⊎◌, ◌<◌, ◌≤◌, ◌+◌, ◌∷◌, [], All, ℕ, List, IsTrue, IfErr, IfOk, IfSome, OnOk, Option, Some, None, filter, length};
+ghost use Rattle.std.specs.Prelude.{◌≡◌, ◌≢◌, ◌↔◌, ◌++◌, ◌==◌, ◌⊎◌, ◌<◌, ◌≤◌, ◌+◌, ◌*◌, ◌∷◌, [], All, ℕ, List, IsSome, IsTrue, IfErr, IfOk, IfSome, OnOk, Option, Some, None, filter, length, sum_by};
+ghost use Rattle.xn_bytes.specs.Costs.{mapped_count};
+ghost use Rattle.xn_bytes.specs.Extents.{mapped};
 ghost use Rattle.xn_bytes.specs.HashedTree.{Child as HeldChild};
-ghost use Rattle.xn_bytes.specs.Trees.{AreBlocks, Held as Holding, IsLeafFor, IsTree, Stands, StandsAlone, TreeHolds, bytes_at, child_for, leaves_to, level_in, levels_of_tree};
+ghost use Rattle.xn_bytes.specs.Trees.{AreBlocks, FailsFor, Held as Holding, IsLeafFor, IsTree, Stands, StandsAlone, TreeHolds, bytes_at, child_for, leaves_to, level_in, levels_of_tree};
 ghost use Rattle.xn_inode.specs.Frames.{StoreStays};
-ghost use Rattle.xn_datree.specs.Finding.{ComesDown, IsNoLeaf};
+ghost use Rattle.xn_datree.specs.Finding.{ComesDown, FollowsFrom, IsNoLeaf};
 ghost use Rattle.xn_datree.specs.Held.{held_of};
 ghost use Rattle.xn_datree.specs.Forks.{tree_fork, tree_of, IsTreeFault, IsVisitFault};
 
@@ -102,10 +104,12 @@ pub(crate) fn descend<L: Leaf, S: Store>(
     ensures flat { IfOk result (λ _. level_in bytes.new ≡ 0) }
     ensures alone { IfOk result (λ leaf. StandsAlone L.Holds L.ends (tree_fork (S.shape store.old) fork.now) bytes.new leaf.0 (held_of leaf.1)) }
     ensures bytes { IfOk result (λ leaf. IfSome (S.image store.old) (λ x. bytes.new ≡ bytes_at (tree_of L.Holds L.ends (S.shape store.old) fork.now x) leaf.0.file_block)) }
-    ensures fault { IfErr result (IsTreeFault S.Store (λ x _. (helds : List (Holding L.Entry)) → ¬ IsTree (tree_of L.Holds L.ends (S.shape store.old) fork.now x) helds) fork.now store.old store.new) }
+    ensures fault { IfErr result (IsTreeFault S.Store (λ x. FailsFor (tree_of L.Holds L.ends (S.shape store.old) fork.now x) hash) fork.now store.old store.new) }
     ensures stays { StoreStays S.Store store.old store.new }
     ensures fetches { S.fetches store.new ≤ S.fetches store.old + 5 }
-    ensures levels { IfOk result (λ _. IfSome (S.image store.old) (λ x. S.fetches store.new ≤ S.fetches store.old + levels_of_tree (tree_of L.Holds L.ends (S.shape store.old) fork.now x))) }
+    ensures levels { IfSome (S.image store.old) (λ x. S.fetches store.new ≤ S.fetches store.old + levels_of_tree (tree_of L.Holds L.ends (S.shape store.old) fork.now x)) }
+    ensures leads { IfOk result (λ leaf. IfSome (S.image store.old) (λ x. FollowsFrom (tree_of L.Holds L.ends (S.shape store.old) fork.now x) hash bytes.new leaf.0 (held_of leaf.1))) }
+    ensures there { IfOk result (λ leaf. IsSome (mapped fork.now.extents leaf.0.file_block)) }
 {
     let mut visit = root_visit(fork);
     let mut held = read_alone::<L, S>(alloc, store, fork, visit, bytes)?;
@@ -118,8 +122,9 @@ pub(crate) fn descend<L: Leaf, S: Store>(
 
 impl<L: Leaf> Tree<L> {
     /// The entries with a hash, from left to right: those of the leaf to which the descent leads, and of its right siblings
-    /// until one is the last or has a greater hash, a fetch each. Broken comes only of a fork whose tree fails its rule; what lies beside
-    /// the way is not looked at.
+    /// until one is the last or has a greater hash, a fetch each. Broken comes only of a fork whose tree fails its rule, with
+    /// the first block that fails on this way; what lies beside it is not looked at. Even a broken tree is left after as
+    /// many fetches as the fork maps blocks, and 5.
     pub fn find_all<S: Store>(
         alloc: Global,
         store: &mut S,
@@ -130,9 +135,11 @@ impl<L: Leaf> Tree<L> {
         requires blocks { AreBlocks (S.shape store.old) fork.now.extents }
         ensures found { IfOk result (λ found. IfSome (S.image store.old) (λ x. (entries : List L.Entry) → TreeHolds (tree_of L.Holds L.ends (S.shape store.old) fork.now x) entries → found.items ≡ filter (λ entry. L.hash entry == hash) entries)) }
         ensures of_hash { IfOk result (λ found. All (λ entry. L.hash entry ≡ hash) found.items) }
-        ensures fault { IfErr result (IsTreeFault S.Store (λ x _. (helds : List (Holding L.Entry)) → ¬ IsTree (tree_of L.Holds L.ends (S.shape store.old) fork.now x) helds) fork.now store.old store.new) }
+        ensures fault { IfErr result (IsTreeFault S.Store (λ x. FailsFor (tree_of L.Holds L.ends (S.shape store.old) fork.now x) hash) fork.now store.old store.new) }
         ensures stays { StoreStays S.Store store.old store.new }
-        ensures fetches { IfOk result (λ _. IfSome (S.image store.old) (λ x. (helds : List (Holding L.Entry)) → IsTree (tree_of L.Holds L.ends (S.shape store.old) fork.now x) helds → S.fetches store.new ≤ S.fetches store.old + levels_of_tree (tree_of L.Holds L.ends (S.shape store.old) fork.now x) + leaves_to hash helds)) }
+        ensures fetches { IfSome (S.image store.old) (λ x. (helds : List (Holding L.Entry)) → IsTree (tree_of L.Holds L.ends (S.shape store.old) fork.now x) helds → S.fetches store.new ≤ S.fetches store.old + levels_of_tree (tree_of L.Holds L.ends (S.shape store.old) fork.now x) + leaves_to hash helds) }
+        ensures most { S.fetches store.new ≤ S.fetches store.old + 5 + mapped_count fork.now.extents }
+        ensures room { IfOk result (λ found. sum_by L.size found.items ≤ L.CAPACITY * (1 + mapped_count fork.now.extents)) }
     {
         let mut bytes = [0; BLOCK_BYTES];
         let mut found = Vec::new(alloc);
@@ -185,7 +192,10 @@ fn read_leaf<L: Leaf, S: Store>(
     ensures flat { IfOk result (λ _. level_in bytes.new ≡ 0) }
     ensures stands { IfOk result (λ held. IfSome (S.image store.old) (λ x. Stands (tree_of L.Holds L.ends (S.shape store.old) fork.now x) trail.now visit (held_of held))) }
     ensures bytes { IfOk result (λ _. IfSome (S.image store.old) (λ x. bytes.new ≡ bytes_at (tree_of L.Holds L.ends (S.shape store.old) fork.now x) visit.file_block)) }
-    ensures fault { IfErr result (IsTreeFault S.Store (λ x _. IsNoLeaf (tree_of L.Holds L.ends (S.shape store.old) fork.now x) trail.now visit) fork.now store.old store.new) }
+    ensures there { IfOk result (λ _. IsSome (mapped fork.now.extents visit.file_block)) }
+    ensures new { IfOk result (λ _. All (λ one. one.file_block ≢ visit.file_block) trail.now) }
+    ensures alone { IfOk result (λ held. StandsAlone L.Holds L.ends (tree_fork (S.shape store.old) fork.now) bytes.new visit (held_of held)) }
+    ensures fault { IfErr result (IsVisitFault S.Store (λ x. IsNoLeaf (tree_of L.Holds L.ends (S.shape store.old) fork.now x) trail.now visit) fork.now visit.file_block store.old store.new) }
     ensures stays { StoreStays S.Store store.old store.new }
     ensures fetches { S.fetches store.new ≤ S.fetches store.old + 1 }
 {

@@ -1,6 +1,6 @@
 //! One block of a tree, read for a walk or a descent.
 
-ghost use Rattle.std.specs.Prelude.{◌≡◌, ◌+◌, ◌≤◌, ℕ, Option, Some, length, IfErr, IfOk, IfSome, MatchOption};
+ghost use Rattle.std.specs.Prelude.{◌≡◌, ◌≢◌, ◌⊎◌, ◌+◌, ◌≤◌, ℕ, All, Option, Some, length, IfErr, IfOk, IfSome, IsSome, MatchOption};
 ghost use Rattle.xn_bytes.specs.Superblock.{IsBlock};
 ghost use Rattle.xn_bytes.specs.Extents.{mapped};
 ghost use Rattle.xn_bytes.specs.Trees.{AreBlocks, Held as Holding, Stands, StandsAlone, bytes_at};
@@ -60,6 +60,8 @@ pub(crate) fn read_visit<L: Leaf, S: Store>(
     requires whole { S.IsWhole store.old }
     requires blocks { AreBlocks (S.shape store.old) fork.now.extents }
     ensures alone { IfOk result (λ held. StandsAlone L.Holds L.ends (tree_fork (S.shape store.old) fork.now) bytes.new visit (held_of held)) }
+    ensures new { IfOk result (λ _. All (λ one. one.file_block ≢ visit.file_block) trail.now) }
+    ensures fetched { (S.fetches store.new ≤ S.fetches store.old) ⊎ ((IsSome (mapped fork.now.extents visit.file_block)) × All (λ one. one.file_block ≢ visit.file_block) trail.now) }
     ensures stands { IfOk result (λ held. IfSome (S.image store.old) (λ x. Stands (tree_of L.Holds L.ends (S.shape store.old) fork.now x) trail.now visit (held_of held))) }
     ensures bytes { IfOk result (λ _. IfSome (S.image store.old) (λ x. bytes.new ≡ bytes_at (tree_of L.Holds L.ends (S.shape store.old) fork.now x) visit.file_block)) }
     ensures fault { IfErr result (IsVisitFault S.Store (λ x. (held : Holding L.Entry) → ¬ Stands (tree_of L.Holds L.ends (S.shape store.old) fork.now x) trail.now visit held) fork.now visit.file_block store.old store.new) }

@@ -3,7 +3,7 @@
 ghost use Rattle.std.specs.Prelude.{◌≡◌, ◌++◌, ◌+◌, ◌≤◌, ◌∷◌, [], All, List, IfErr, IfOk, IfSome, OnOk, length, map};
 ghost use Rattle.xn_bytes.specs.Trees.{AreBlocks, BreaksAt, Held as Holding, IsTree, TreeHolds, met_with, visit_to};
 ghost use Rattle.xn_inode.specs.Frames.{StoreStays};
-ghost use Rattle.xn_datree.specs.Forks.{tree_of, IsTreeFault};
+ghost use Rattle.xn_datree.specs.Forks.{tree_of, FetchesBlocks, IsTreeFault};
 
 use crate::fork::Fork;
 use crate::held::level_of;
@@ -26,8 +26,10 @@ pub struct Tree<L: Leaf> {
 }
 
 impl<L: Leaf> Tree<L> {
-    /// All entries of the tree from left to right, with one fetch for each of its blocks. Broken comes exactly where the tree fails its rule, with the first block
-    /// that fails; the last block of a level is asked for its right sibling only where no block fails otherwise.
+    /// All entries of the tree from left to right, with one fetch for each of its blocks. Broken comes exactly where the tree
+    /// fails its rule, with the first block that fails; the last block of a level is asked for its right sibling only where
+    /// no block fails otherwise. There is at most one fetch for each mapped block that the tree can have, also where it
+    /// is broken.
     pub fn walk<S: Store>(
         alloc: Global,
         store: &mut S,
@@ -39,6 +41,7 @@ impl<L: Leaf> Tree<L> {
         ensures fault { IfErr result (IsTreeFault S.Store (λ x. BreaksAt (tree_of L.Holds L.ends (S.shape store.old) fork.now x)) fork.now store.old store.new) }
         ensures stays { StoreStays S.Store store.old store.new }
         ensures fetches { IfOk result (λ _. IfSome (S.image store.old) (λ x. (helds : List (Holding L.Entry)) × IsTree (tree_of L.Holds L.ends (S.shape store.old) fork.now x) helds × (S.fetches store.new ≤ S.fetches store.old + length helds))) }
+        ensures once { FetchesBlocks fork.now (S.fetches store.old) (S.fetches store.new) }
     {
         let mut trail = Trail::new(alloc);
         let mut agenda = VecDeque::new(alloc);

@@ -29,6 +29,15 @@ BreaksIndex d first others rule block =
     ⊎ ((live : List LeafEntry) × HasLeaves d live
     × OrBreaks rule block 19 0 (AreLeavesOf live (all_entries first others)) ((rule ≡ 20) × (block ≡ 0) × ¬ HasBests d (with_first first others)))
 
+-- what the data blocks ask for was gathered, and rules 18 to 20 hold
+abbrev pub IsIndexed : DirFork → List LeafEntry → List Best → Type 0
+IsIndexed d leaves bests = (first : DataForm) (others : List Placed) → AreGathered d first others leaves bests → HasIndex d first others
+
+-- or one of them is the first that doesn't
+abbrev pub IsMisindexed : DirFork → List LeafEntry → List Best → ℕ → ℕ → Type 0
+IsMisindexed d leaves bests rule block =
+    (first : DataForm) (others : List Placed) → AreGathered d first others leaves bests → BreaksIndex d first others rule block
+
 -- at most one fetch for each of these blocks of leaves, nodes and free-index blocks
 pub record FetchesIndex (runs : List Run) (before now : ℕ) : Type 0 where
   pub read : List ℕ

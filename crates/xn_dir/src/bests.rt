@@ -15,6 +15,7 @@ ghost use Rattle.xn_inode.specs.declared.fork_fault.ForkFault.TheVariants.{Memor
 ghost use Rattle.xn_dir.specs.Blocks.{fork_over};
 ghost use Rattle.xn_dir.specs.Bests.{AreNoted, AreRising, FetchesFree, HasNoted, IsNotedIndex, IsOwnFree, noted as noted_of, noted_at, noted_for};
 
+use crate::sizes::{BLOCK_BYTES, FREE_FILE_BLOCK};
 use xn_bytes::u32_at;
 use xn_inode::{Extents, Store, StoreFault, Super};
 use xn_leaf::FreeIndex;
@@ -22,16 +23,11 @@ use xn_leaf::FreeIndex;
 /// The best of a number that has no data block.
 const NO_BEST: u16 = 0xffff;
 
-/// Where the file blocks of free-index blocks begin.
-const FREE_FILE_BLOCK: u64 = 16_777_216;
-
 /// How many data blocks a free-index block has bests of.
 const BESTS: u64 = 2016;
 
 /// The place in a free-index block of its first number.
 const FIRST: usize = 48;
-
-const BLOCK_BYTES: usize = 4096;
 
 /// The best of a data block, with the block's number in the file.
 #[derive(Clone, Copy, Debug, PartialEq, Eq)]

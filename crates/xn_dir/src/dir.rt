@@ -1,13 +1,13 @@
 //! The calls on a directory of a store.
 
-ghost use Rattle.std.specs.Prelude.{◌≡◌, ◌+◌, ◌≤◌, ℕ, List, IfSome, IfOk, IfErr, map};
+ghost use Rattle.std.specs.Prelude.{◌≡◌, ◌+◌, ◌*◌, ◌≤◌, ℕ, List, IfSome, IfOk, IfErr, map};
 ghost use Rattle.xn_bytes.specs.Superblock.{IsBlock, IsInode};
 ghost use Rattle.xn_bytes.specs.Blocks.{block_of};
 ghost use Rattle.xn_bytes.specs.Inode.{inode_of};
 ghost use Rattle.xn_bytes.specs.Directory.{HasNames};
 ghost use Rattle.xn_bytes.specs.DirectoryHolds.{DirHolds, HasDotdot};
 ghost use Rattle.xn_bytes.specs.Hashes.{name_hash_of};
-ghost use Rattle.xn_bytes.specs.Costs.{HasLookUpCost, list_cost};
+ghost use Rattle.xn_bytes.specs.Costs.{HasHashReach, HasLookUpCost, list_cost, look_up_most};
 ghost use Rattle.xn_bytes.specs.DirectoryForms.{HasBlocksSize};
 ghost use Rattle.xn_bytes.specs.DirectoryRules.{HasInode};
 ghost use Rattle.xn_inode.specs.Frames.{StoreStays};
@@ -21,14 +21,13 @@ use crate::entry::Entry;
 use crate::form::{Form, broken, form_of};
 use crate::hashed_fork::hashed_fork;
 use crate::listing::Listed;
+use crate::sizes::BLOCK_BYTES;
 use crate::{block_form, hashed_form, hashed_list, short_form};
 use std::alloc::Global;
 use xn_bytes::Name;
 use xn_inode::{Core, ForkFault, Store};
 
 const INODE_BYTES: usize = 512;
-
-const BLOCK_BYTES: usize = 4096;
 
 /// A directory of a store: a map from name to entry, whichever form it is kept in.
 pub struct Dir;
@@ -37,7 +36,9 @@ impl Dir {
     /// What a name stands for in the directory of this inode; None where no entry has the name. In the forms with blocks it
     /// is found by the hash of the name, so None rests on the leaf entries: it is sure where they are those of the entries.
     /// An entry that is found always stands there. It reads the inode; in block form the block; in leaf and node form the
-    /// path to the leaf, further leaves as long as they end with the hash, and a data block for each leaf entry with it.
+    /// path to the leaf, further leaves as long as they end with the hash, and a data block for each leaf entry with it:
+    /// with k leaf entries of the hash, stale ones counted, the inode, the levels and 2 k blocks at most. Where leaves or
+    /// tree are broken, it is left after so many reads as the number of mapped blocks says.
     pub fn lookup<S: Store>(
         alloc: Global,
         store: &mut S,
@@ -52,7 +53,9 @@ impl Dir {
         ensures inode { IfOk result (λ _. IfSome (S.image store.old) (λ x. HasInode (S.shape store.old) (inode_of (S.shape store.old) x dir) dir)) }
         ensures fault { IfErr result (IsSeenFaultOf S.Store dir store.old store.new) }
         ensures stays { StoreStays S.Store store.old store.new }
-        ensures fetches { IfOk result (λ _. IfSome (S.image store.old) (λ x. (cost : ℕ) → HasLookUpCost (S.shape store.old) x dir (name_hash_of name.now) cost → S.fetches store.new ≤ S.fetches store.old + cost)) }
+        ensures fetches { IfSome (S.image store.old) (λ x. (cost : ℕ) → HasLookUpCost (S.shape store.old) x dir (name_hash_of name.now) cost → S.fetches store.new ≤ S.fetches store.old + cost) }
+        ensures reach { IfSome (S.image store.old) (λ x. (levels count : ℕ) → HasHashReach (S.shape store.old) x dir (name_hash_of name.now) levels count → S.fetches store.new ≤ S.fetches store.old + 1 + levels + 2 * count) }
+        ensures most { IfSome (S.image store.old) (λ x. S.fetches store.new ≤ S.fetches store.old + look_up_most (inode_of (S.shape store.old) x dir)) }
     {
         let mut inode = [0; INODE_BYTES];
         let (core, form) = read_form(alloc, store, dir, &mut inode)?;
@@ -81,7 +84,7 @@ impl Dir {
         ensures inode { IfOk result (λ _. IfSome (S.image store.old) (λ x. HasInode (S.shape store.old) (inode_of (S.shape store.old) x dir) dir)) }
         ensures fault { IfErr result (IsFaultOf S.Store dir store.old store.new) }
         ensures stays { StoreStays S.Store store.old store.new }
-        ensures fetches { IfOk result (λ _. IfSome (S.image store.old) (λ x. S.fetches store.new ≤ S.fetches store.old + list_cost (inode_of (S.shape store.old) x dir))) }
+        ensures fetches { IfSome (S.image store.old) (λ x. S.fetches store.new ≤ S.fetches store.old + list_cost (inode_of (S.shape store.old) x dir)) }
     {
         let mut inode = [0; INODE_BYTES];
         let (core, form) = read_form(alloc, store, dir, &mut inode)?;

@@ -106,23 +106,10 @@ pub(crate) fn extents_of(
         Err(ExtentFault::Bad { .. }) => return Err(broken(13)),
         Err(ExtentFault::Memory) => return Err(ForkFault::Memory),
     };
-    if !are_home(geometry, &extents) {
+    if !extents.are_home(geometry) {
         return Err(broken(13));
     }
     Ok(extents)
-}
-
-/// Whether a fork may map each block of the extents.
-fn are_home(geometry: &Super, extents: &Extents) -> bool
-    ensures { IsTrue result ↔ AreHome geometry.now extents.now }
-{
-    for at in 0..extents.count() {
-        let (_, block, count) = extents.run(at);
-        if !geometry.is_home_run(block, count) {
-            return false;
-        }
-    }
-    true
 }
 
 /// The block of file block 0, where no other is mapped.

@@ -9,12 +9,10 @@ ghost use Rattle.xn_dir.specs.Hashed.{HasSize, IsForkOf};
 ghost use Rattle.xn_dir.specs.declared.form.Form.TheVariants as forms;
 
 use crate::form::{broken, extents_of};
-use crate::leaves::LEAF_FILE_BLOCK;
+use crate::sizes::{BLOCK_BYTES, LEAF_FILE_BLOCK};
 use std::alloc::Global;
 use xn_datree::Fork;
 use xn_inode::{Core, Extents, ForkFault, Super};
-
-const BLOCK_BYTES: u64 = 4096;
 
 const EXTENT_BYTES: u64 = 16;
 
@@ -52,7 +50,7 @@ fn has_size(extents: &Extents, size: u64) -> bool
     ensures { IsTrue result ↔ HasSize extents.now size }
 {
     match extents.last_mapped(LEAF_FILE_BLOCK) {
-        Some(last) => size == BLOCK_BYTES * (last + 1),
+        Some(last) => size == BLOCK_BYTES as u64 * (last + 1),
         None => false,
     }
 }

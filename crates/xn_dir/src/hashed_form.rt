@@ -6,7 +6,7 @@ ghost use Rattle.xn_bytes.specs.Trees.{AreBlocks};
 ghost use Rattle.xn_bytes.specs.DataBlock.{DataForm, LeafEntry, entries_among};
 ghost use Rattle.xn_bytes.specs.Hashes.{name_hash_of};
 ghost use Rattle.xn_bytes.specs.Superblock.{IsBlock};
-ghost use Rattle.xn_bytes.specs.Costs.{IsHashCost};
+ghost use Rattle.xn_bytes.specs.Costs.{IsHashCost, hash_most};
 ghost use Rattle.xn_bytes.specs.DirectoryForms.{HasDots, IsDataBlockOf};
 ghost use Rattle.xn_bytes.specs.LeafForms.{HoldsHashed};
 ghost use Rattle.xn_bytes.specs.DirectoryRules.{FailsData, FailsHashed};
@@ -21,14 +21,13 @@ use crate::entry::Entry;
 use crate::form::broken;
 use crate::index::standing_at;
 use crate::leaves::with_hash;
+use crate::sizes::BLOCK_BYTES;
 use std::alloc::Global;
 use xn_bytes::{Name, name_hash};
 use xn_data::DataEntry;
 use xn_datree::Fork;
 use xn_inode::{ForkFault, Store, Super};
 use xn_leaf::HashAt;
-
-pub(crate) const BLOCK_BYTES: usize = 4096;
 
 /// Addresses count 8 bytes each, 512 a data block.
 const ADDRESSES: u64 = 512;
@@ -47,7 +46,8 @@ pub(crate) fn lookup<S: Store>(
     ensures found { IfOk result (λ found. IfSome (S.image store.old) (λ x. (entries : List held.Entry) (dotdot : ℕ) → HoldsHashed (dir_fork (S.shape store.old) fork.now x) entries dotdot → Finds name.now entries found)) }
     ensures fault { IfErr result (IsHashedFault S.Store (λ x. FailsHashed (dir_fork (S.shape store.old) fork.now x)) store.old store.new) }
     ensures stays { StoreStays S.Store store.old store.new }
-    ensures fetches { IfOk result (λ _. IfSome (S.image store.old) (λ x. (cost : ℕ) → IsHashCost (dir_fork (S.shape store.old) fork.now x) (name_hash_of name.now) cost → S.fetches store.new ≤ S.fetches store.old + cost)) }
+    ensures fetches { IfSome (S.image store.old) (λ x. (cost : ℕ) → IsHashCost (dir_fork (S.shape store.old) fork.now x) (name_hash_of name.now) cost → S.fetches store.new ≤ S.fetches store.old + cost) }
+    ensures most { S.fetches store.new ≤ S.fetches store.old + hash_most fork.now.extents }
 {
     let leaves = with_hash(alloc, store, fork, name_hash(name.bytes()))?;
     find_among(store, fork, &leaves, name)

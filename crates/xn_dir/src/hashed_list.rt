@@ -2,24 +2,24 @@
 
 ghost use Rattle.std.specs.Prelude.{◌≡◌, ◌≢◌, ◌+◌, ◌≤◌, ℕ, true, AllPairs, IfOk, IfErr, IfSome, List, MatchResult, map};
 ghost use Rattle.xn_bytes.specs.Trees.{AreBlocks};
-ghost use Rattle.xn_bytes.specs.DataBlock.{DataForm};
 ghost use Rattle.xn_bytes.specs.Directory.{HasNames};
 ghost use Rattle.xn_bytes.specs.DirectoryForms.{IsLeafForm};
-ghost use Rattle.xn_bytes.specs.LeafForms.{HoldsHashed, Placed};
+ghost use Rattle.xn_bytes.specs.LeafForms.{HoldsHashed};
 ghost use Rattle.xn_bytes.specs.DirectoryRules.{BreaksHashed};
 ghost use Rattle.xn_bytes.specs.Costs.{mapped_count};
 ghost use Rattle.xn_inode.specs.Frames.{StoreStays};
 ghost use Rattle.xn_dir.specs.Faults.{IsHashedFault, IsRule};
 ghost use Rattle.xn_dir.specs.Hashed.{IsDirFork, dir_fork};
 ghost use Rattle.xn_dir.specs.Listings.{entry_of, name_of};
-ghost use Rattle.xn_dir.specs.Indexed.{AreGathered, BreaksIndex, FetchesIndex, HasIndex};
+ghost use Rattle.xn_dir.specs.Indexed.{FetchesIndex, IsIndexed, IsMisindexed};
 
 use crate::bests::{Best, are_leaf_bests, has_free_indexes};
 use crate::compare::are_same;
 use crate::form::broken;
 use crate::gather::{Gathered, gather};
-use crate::leaves::{LEAF_FILE_BLOCK, is_leaf_form, read_single_leaf};
+use crate::leaves::{is_leaf_form, read_single_leaf};
 use crate::listing::{Listed, check_once};
+use crate::sizes::LEAF_FILE_BLOCK;
 use std::alloc::Global;
 use xn_datree::{Fork, Tree};
 use xn_inode::{ForkFault, Store};
@@ -38,7 +38,7 @@ pub(crate) fn list<S: Store>(
     ensures names { IfOk result (λ listed. HasNames (map entry_of listed.items)) }
     ensures fault { IfErr result (IsHashedFault S.Store (λ x. BreaksHashed (dir_fork (S.shape store.old) fork.now x)) store.old store.new) }
     ensures stays { StoreStays S.Store store.old store.new }
-    ensures fetches { IfOk result (λ _. IfSome (S.image store.old) (λ _. S.fetches store.new ≤ S.fetches store.old + mapped_count fork.now.extents)) }
+    ensures fetches { S.fetches store.new ≤ S.fetches store.old + mapped_count fork.now.extents }
 {
     let Gathered {
         listed,
@@ -75,10 +75,10 @@ fn check_index<S: Store>(
     requires whole { S.IsWhole store.old }
     requires blocks { AreBlocks (S.shape store.old) fork.now.extents }
     requires fork { IsDirFork fork.now }
-    ensures right { IfOk result (λ _. IfSome (S.image store.old) (λ x. (first : DataForm) (others : List Placed) → AreGathered (dir_fork (S.shape store.old) fork.now x) first others leaves.items bests.now → HasIndex (dir_fork (S.shape store.old) fork.now x) first others)) }
-    ensures fault { IfErr result (IsHashedFault S.Store (λ x rule block. (first : DataForm) (others : List Placed) → AreGathered (dir_fork (S.shape store.old) fork.now x) first others leaves.items bests.now → BreaksIndex (dir_fork (S.shape store.old) fork.now x) first others rule block) store.old store.new) }
+    ensures right { IfOk result (λ _. IfSome (S.image store.old) (λ x. IsIndexed (dir_fork (S.shape store.old) fork.now x) leaves.items bests.now)) }
+    ensures fault { IfErr result (IsHashedFault S.Store (λ x. IsMisindexed (dir_fork (S.shape store.old) fork.now x) leaves.items bests.now) store.old store.new) }
     ensures stays { StoreStays S.Store store.old store.new }
-    ensures fetches { IfOk result (λ _. IfSome (S.image store.old) (λ _. FetchesIndex fork.now.extents (S.fetches store.old) (S.fetches store.new))) }
+    ensures fetches { FetchesIndex fork.now.extents (S.fetches store.old) (S.fetches store.new) }
 {
     if is_leaf_form(&fork.extents) {
         check_leaf_form(alloc, store, fork, leaves, bests)
@@ -98,10 +98,10 @@ fn check_leaf_form<S: Store>(
     requires whole { S.IsWhole store.old }
     requires blocks { AreBlocks (S.shape store.old) fork.now.extents }
     requires leaf_form { IsLeafForm fork.now.extents }
-    ensures right { IfOk result (λ _. IfSome (S.image store.old) (λ x. (first : DataForm) (others : List Placed) → AreGathered (dir_fork (S.shape store.old) fork.now x) first others leaves.items bests.now → HasIndex (dir_fork (S.shape store.old) fork.now x) first others)) }
-    ensures fault { IfErr result (IsHashedFault S.Store (λ x rule block. (first : DataForm) (others : List Placed) → AreGathered (dir_fork (S.shape store.old) fork.now x) first others leaves.items bests.now → BreaksIndex (dir_fork (S.shape store.old) fork.now x) first others rule block) store.old store.new) }
+    ensures right { IfOk result (λ _. IfSome (S.image store.old) (λ x. IsIndexed (dir_fork (S.shape store.old) fork.now x) leaves.items bests.now)) }
+    ensures fault { IfErr result (IsHashedFault S.Store (λ x. IsMisindexed (dir_fork (S.shape store.old) fork.now x) leaves.items bests.now) store.old store.new) }
     ensures stays { StoreStays S.Store store.old store.new }
-    ensures fetches { IfOk result (λ _. IfSome (S.image store.old) (λ _. FetchesIndex fork.now.extents (S.fetches store.old) (S.fetches store.new))) }
+    ensures fetches { FetchesIndex fork.now.extents (S.fetches store.old) (S.fetches store.new) }
 {
     let leaf = read_single_leaf(alloc, store, fork)?;
     let last = fork.extents.last_mapped(LEAF_FILE_BLOCK).unwrap_or(0);
@@ -127,10 +127,10 @@ fn check_node_form<S: Store>(
     requires blocks { AreBlocks (S.shape store.old) fork.now.extents }
     requires fork { IsDirFork fork.now }
     requires node_form { ¬ IsLeafForm fork.now.extents }
-    ensures right { IfOk result (λ _. IfSome (S.image store.old) (λ x. (first : DataForm) (others : List Placed) → AreGathered (dir_fork (S.shape store.old) fork.now x) first others leaves.items bests.now → HasIndex (dir_fork (S.shape store.old) fork.now x) first others)) }
-    ensures fault { IfErr result (IsHashedFault S.Store (λ x rule block. (first : DataForm) (others : List Placed) → AreGathered (dir_fork (S.shape store.old) fork.now x) first others leaves.items bests.now → BreaksIndex (dir_fork (S.shape store.old) fork.now x) first others rule block) store.old store.new) }
+    ensures right { IfOk result (λ _. IfSome (S.image store.old) (λ x. IsIndexed (dir_fork (S.shape store.old) fork.now x) leaves.items bests.now)) }
+    ensures fault { IfErr result (IsHashedFault S.Store (λ x. IsMisindexed (dir_fork (S.shape store.old) fork.now x) leaves.items bests.now) store.old store.new) }
     ensures stays { StoreStays S.Store store.old store.new }
-    ensures fetches { IfOk result (λ _. IfSome (S.image store.old) (λ _. FetchesIndex fork.now.extents (S.fetches store.old) (S.fetches store.new))) }
+    ensures fetches { FetchesIndex fork.now.extents (S.fetches store.old) (S.fetches store.new) }
 {
     let live = Tree::<DirLeaf>::walk(alloc, store, fork)?;
     if !are_same(alloc, leaves, live)? {

@@ -1,6 +1,6 @@
 //! Rule 18 of leaf and node form: the leaf entries, in the single leaf or in the leaves of a tree.
 
-ghost use Rattle.std.specs.Prelude.{◌≡◌, ◌↔◌, ◌+◌, ◌≤◌, ◌==◌, ℕ, IsTrue, IfOk, IfErr, IfSome, List, Some, filter, length};
+ghost use Rattle.std.specs.Prelude.{◌≡◌, ◌↔◌, ◌+◌, ◌*◌, ◌≤◌, ◌==◌, ℕ, IsTrue, IfOk, IfErr, IfSome, List, Some, filter, length};
 ghost use Rattle.xn_bytes.specs.Blocks.{block_of};
 ghost use Rattle.xn_bytes.specs.Extents.{mapped};
 ghost use Rattle.xn_bytes.specs.DataBlock.{LeafEntry};
@@ -9,7 +9,7 @@ ghost use Rattle.xn_bytes.specs.Trees.{AreBlocks};
 ghost use Rattle.xn_bytes.specs.DirectoryForms.{IsLeafForm};
 ghost use Rattle.xn_bytes.specs.LeafForms.{BreaksLeaves, HasLeaves};
 ghost use Rattle.xn_bytes.specs.DirectoryRules.{FailsLeaves};
-ghost use Rattle.xn_bytes.specs.Costs.{IsHashCost};
+ghost use Rattle.xn_bytes.specs.Costs.{IsHashCost, mapped_count};
 ghost use Rattle.xn_inode.specs.Frames.{StoreStays};
 ghost use Rattle.xn_dir.specs.Faults.{IsHashedFault};
 ghost use Rattle.xn_dir.specs.Hashed.{IsDirFork, dir_fork};
@@ -17,15 +17,11 @@ ghost use Rattle.xn_dir.specs.SingleLeaves.{IsLeafRead};
 
 use crate::form::broken;
 use crate::single_leaf::{SingleLeaf, single_leaf};
+use crate::sizes::{BLOCK_BYTES, LEAF_FILE_BLOCK};
 use std::alloc::{AllocError, Global};
 use xn_datree::{Fork, Tree};
 use xn_inode::{Extents, ForkFault, Store};
 use xn_leaf::{DirLeaf, HashAt};
-
-const BLOCK_BYTES: usize = 4096;
-
-/// The file block of the single leaf, or of the root of the tree.
-pub(crate) const LEAF_FILE_BLOCK: u64 = 8_388_608;
 
 /// Whether a directory that is in leaf or node form is in leaf form: nothing is mapped behind the single leaf.
 pub(crate) fn is_leaf_form(extents: &Extents) -> bool
@@ -48,6 +44,9 @@ pub(crate) fn with_hash<S: Store>(
     ensures fault { IfErr result (IsHashedFault S.Store (λ x rule block. (rule ≡ 18) × FailsLeaves (dir_fork (S.shape store.old) fork.now x) block) store.old store.new) }
     ensures stays { StoreStays S.Store store.old store.new }
     ensures fetches { IfOk result (λ found. IfSome (S.image store.old) (λ x. (cost : ℕ) → IsHashCost (dir_fork (S.shape store.old) fork.now x) hash cost → S.fetches store.new + length found.items ≤ S.fetches store.old + cost)) }
+    ensures failed { IfErr result (λ _. IfSome (S.image store.old) (λ x. (cost : ℕ) → IsHashCost (dir_fork (S.shape store.old) fork.now x) hash cost → S.fetches store.new ≤ S.fetches store.old + cost)) }
+    ensures most { S.fetches store.new ≤ S.fetches store.old + 5 + mapped_count fork.now.extents }
+    ensures few { IfOk result (λ found. length found.items ≤ 504 * (1 + mapped_count fork.now.extents)) }
 {
     if is_leaf_form(&fork.extents) {
         let leaf = read_single_leaf(alloc, store, fork)?;
@@ -85,6 +84,7 @@ pub(crate) fn read_single_leaf<S: Store>(
     requires whole { S.IsWhole store.old }
     requires blocks { AreBlocks (S.shape store.old) fork.now.extents }
     requires leaf_form { IsLeafForm fork.now.extents }
+    ensures few { IfOk result (λ leaf. length leaf.live.items ≤ 504) }
     ensures holds { IfOk result (λ leaf. IfSome (S.image store.old) (λ x. (block : ℕ) × (mapped fork.now.extents leaf_file_block ≡ Some block) × IsLeafRead (S.shape store.old) fork.now.owner block (block_of (S.shape store.old) x block) leaf)) }
     ensures fault { IfErr result (IsHashedFault S.Store (λ x rule block. (rule ≡ 18) × BreaksLeaves (dir_fork (S.shape store.old) fork.now x) block) store.old store.new) }
     ensures stays { StoreStays S.Store store.old store.new }

@@ -17,6 +17,7 @@ mod leaves;
 mod listing;
 mod short_form;
 mod single_leaf;
+mod sizes;
 
 pub use dir::Dir;
 pub use entry::Entry;

@@ -1,5 +1,6 @@
 pub mod Frames
 pub mod HomeRuns
+pub mod HomeLists
 pub mod Runs
 pub mod Records
 pub mod Nexts

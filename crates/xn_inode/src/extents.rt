@@ -2,9 +2,12 @@
 
 ghost use Rattle.std.specs.Prelude.{◌≡◌, ◌+◌, ◌-◌, ◌*◌, ◌^◌, ◌≤◌, ◌<◌, ◌↔◌, ℕ, IsSome, IsTrue, MatchOption, MatchResult, None, Option, Some, drop, length, slice_get, nat_le, nat_lt};
 ghost use Rattle.xn_bytes.specs.Extents.{Run, AreRecords, AreRuns, IsFirstBad, IsRecord, run_in, runs_in, end_of_run, mapped};
+ghost use Rattle.xn_bytes.specs.DirectoryForms.{AreHome};
+ghost use Rattle.xn_bytes.specs.Trees.{AreBlocks};
 ghost use Rattle.xn_inode.specs.declared.extents.ExtentFault.TheVariants.{Memory};
 ghost use Rattle.xn_inode.specs.Lists.{IsLastMapped, IsLastRun, IsNextMapped, IsPlace, NotRead};
 
+use crate::superblock::Super;
 use std::alloc::{AllocError, AllocFailed, Global};
 use std::marker::Model;
 use xn_bytes::u64_at;
@@ -161,6 +164,20 @@ impl Extents {
             Some(run) => run.end(),
             None => 0,
         }
+    }
+
+    /// Whether each block of the runs is one that a fork may map: one of the device, none of the log, and no group's first.
+    pub fn are_home(&self, geometry: &Super) -> bool
+        ensures home { IsTrue result ↔ AreHome geometry.now self.now }
+        ensures blocks { IsTrue result → AreBlocks geometry.now self.now }
+    {
+        for at in 0..self.count() {
+            let (_, block, count) = self.run(at);
+            if !geometry.is_home_run(block, count) {
+                return false;
+            }
+        }
+        true
     }
 
     /// The index of the first run that ends behind a file block, or past the last.

@@ -3,11 +3,12 @@
 ghost use Rattle.std.specs.Prelude.{◌≡◌, ◌+◌, ◌*◌, ◌≤◌, ℕ, List, IfOk, IfSome, MatchResult, length};
 ghost use Rattle.xn_bytes.specs.Names.{IsName, IsNameFault};
 ghost use Rattle.xn_bytes.specs.NameSpace.{part_error};
+ghost use Rattle.xn_bytes.specs.Hashes.{name_hash_of};
 ghost use Rattle.xn_bytes.specs.Paths.{parts_of};
 ghost use Rattle.xn_bytes.specs.Reading.{ResolveEnds, TakesInImage, TakesPart, IsDirectoryIn};
 ghost use Rattle.xn_bytes.specs.Superblock.{IsInode};
 ghost use Rattle.xn_inode.specs.Frames.{StoreStays};
-ghost use Rattle.xn_ns.specs.Costs.{CostsAtMost};
+ghost use Rattle.xn_ns.specs.Costs.{CostsAtMost, LookUpCostsAtMost, StepCostsAtMost};
 ghost use Rattle.xn_ns.specs.Ends.{Answered};
 ghost use Rattle.xn_ns.specs.Steps.{IsTaken, place_of};
 
@@ -43,7 +44,7 @@ pub fn resolve<S: Store>(alloc: Global, store: &mut S, path: &[u8]) -> Result<Re
     requires whole { S.IsWhole store.old }
     ensures answered { Answered (ResolveEnds (S.shape store.old) path.now) (S.image store.old) (S.faults store.old) (S.faults store.new) result }
     ensures stays { StoreStays S.Store store.old store.new }
-    ensures fetches { IfOk result (λ _. IfSome (S.image store.old) (λ x. (most : ℕ) → CostsAtMost (S.shape store.old) x most → S.fetches store.new ≤ S.fetches store.old + (1 + most) * length (parts_of path.now))) }
+    ensures fetches { IfSome (S.image store.old) (λ x. (most : ℕ) → CostsAtMost (S.shape store.old) x path.now most → S.fetches store.new ≤ S.fetches store.old + (1 + most) * length (parts_of path.now)) }
 {
     let mut here = Place {
         ino: store.geometry().root(),
@@ -73,7 +74,7 @@ fn take_part<S: Store>(
     requires whole { S.IsWhole store.old }
     ensures taken { IsTaken (λ x. TakesInImage (S.shape store.old) x (place_of here) part.now) (S.image store.old) (S.faults store.old) (S.faults store.new) result }
     ensures stays { StoreStays S.Store store.old store.new }
-    ensures fetches { IfOk result (λ _. IfSome (S.image store.old) (λ x. (most : ℕ) → CostsAtMost (S.shape store.old) x most → S.fetches store.new ≤ S.fetches store.old + (1 + most))) }
+    ensures fetches { IfSome (S.image store.old) (λ x. (most : ℕ) → StepCostsAtMost (S.shape store.old) x (place_of here) part.now most → S.fetches store.new ≤ S.fetches store.old + (1 + most)) }
 {
     if here.kind != Kind::Dir {
         return Ok(Step::Refused(Errno::ENOTDIR));
@@ -101,7 +102,7 @@ fn take_part_in<S: Store>(
     requires directory { IfSome (S.image store.old) (λ x. IsDirectoryIn (S.shape store.old) x dir) }
     ensures taken { IsTaken (λ x. TakesPart (S.shape store.old) x dir part.now) (S.image store.old) (S.faults store.old) (S.faults store.new) result }
     ensures stays { StoreStays S.Store store.old store.new }
-    ensures fetches { IfOk result (λ _. IfSome (S.image store.old) (λ x. (most : ℕ) → CostsAtMost (S.shape store.old) x most → S.fetches store.new ≤ S.fetches store.old + most)) }
+    ensures fetches { IfSome (S.image store.old) (λ x. (most : ℕ) → LookUpCostsAtMost (S.shape store.old) x dir (name_hash_of part.now) most → S.fetches store.new ≤ S.fetches store.old + most) }
 {
     let name = match Name::read(alloc, part) {
         Ok(name) => name,

@@ -17,11 +17,8 @@ pub returns-clause-reads : goal.returns-clause-reads
 returns-clause-reads g c =
     let found = rw c.in-Some.is at c.in_ok-geometry.ensures.found in
     let reads = rw c.in_ok-geometry.ensures.stays.image_stays at c.ask_image-ended.ensures.reads in
-    let one = c.in_ok-geometry.ensures.reads in
-    IfOk-weaker c.answer_of.result _ _
-    (λ answer said done. reads_over_image c.args.command.now (g.M.Machine.image c.args.machine.now) c.in-Some.geometry c.ask_image-ended.result answer.status answer.text.items
-    (g.M.Machine.reads c.args.machine.now) (g.M.Machine.reads c.read_super.new.machine) (g.M.Machine.reads c.ask_image-ended.new.machine) found one reads said done)
-    c.answer_of.ensures.answer
+    reads_over_image c.args.command.now (g.M.Machine.image c.args.machine.now) c.in-Some.geometry (g.M.Machine.reads c.args.machine.now) (g.M.Machine.reads c.read_super.new.machine) (g.M.Machine.reads c.ask_image-ended.new.machine)
+    found c.in_ok-geometry.ensures.reads reads
 
 pub returns-clause-cause : goal.returns-clause-cause
 returns-clause-cause g c =

@@ -5,9 +5,7 @@ use Rattle.xfsns.proofs.answer.answer_words.Goals as goal
 
 pub returns-in-Ok-clause-reads : goal.returns-in-Ok-clause-reads
 returns-in-Ok-clause-reads g c =
-    IfOk-weaker c.answer_command.result _ _
-    (λ answer reads done. reads_for _ c.in-Ok.command (g.M.Machine.image c.args.machine.now) (g.M.Machine.reads c.args.machine.now) (g.M.Machine.reads c.answer_command.new.machine) c.in-Ok.ensures.ok (reads done))
-    c.answer_command.ensures.reads
+    reads_for _ c.in-Ok.command (g.M.Machine.image c.args.machine.now) (g.M.Machine.reads c.args.machine.now) (g.M.Machine.reads c.answer_command.new.machine) c.in-Ok.ensures.ok c.answer_command.ensures.reads
 
 pub returns-in-Ok-clause-reads_nothing : goal.returns-in-Ok-clause-reads_nothing
 returns-in-Ok-clause-reads_nothing g c = λ none. absurd (asks_something _ c.in-Ok.command c.in-Ok.ensures.ok none)

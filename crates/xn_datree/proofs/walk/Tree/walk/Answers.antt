@@ -1,11 +1,13 @@
 use Rattle.std.proofs.Common.{◌≡◌, ℕ, List, [], ◌∷◌, length, ap, arith, refl, rules}
 use Rattle.std.proofs.lemmas.Result.{err_from_is_err_and}
+use Rattle.xn_bytes.specs.Trees.{Visit}
 use Rattle.xn_inode.proofs.Frames.{stays_at_first, stays_on}
 use Rattle.xn_datree.specs.Held.{held_of}
 use Rattle.xn_datree.specs.Forks.{tree_of, tree_fork}
 use Rattle.xn_datree.proofs.Measures.{none_met_low, first_low, smaller, still_low, met_low}
 use Rattle.xn_datree.proofs.Walking.{led_over_first, led_over_on, led_over_end, led_over_open_end, led_over_reads}
 use Rattle.xn_datree.proofs.Faults.{visit_fault}
+use Rattle.xn_datree.proofs.Fetched.{meets_first, meets_on, fetches_met, fetches_next}
 use Rattle.xn_datree.proofs.walk.Tree.walk.Goals as goal
 
 pub loop-visit-init : goal.loop-visit-init
@@ -19,6 +21,7 @@ loop-visit-init g c =
       agenda_low = first_low c.push_back.new.self.items visit agenda (search rules);
       led = led_over_first (λ (x : List ℕ). tree_of g.L.Leaf.Holds g.L.Leaf.ends (g.S.Store.shape store) c.args.fork.now x) (g.S.Store.image store) visit (λ x. search rules)
           c.new-entries.result.items c.new-trail.result c.push_back.new.self.items (search rules) c.new-trail.ensures agenda;
+      meets = meets_first c.args.fork.now visit c.new-trail.result c.push_back.new.self.items (ap (λ (v : Visit). v.file_block) c.root_visit.ensures) c.new-trail.ensures agenda;
       few = omega arith;
     }
 
@@ -63,6 +66,9 @@ loop-visit-preserved g c =
           c.read_visit.new.bytes c.loop-visit.agenda.items c.append.new.self.items c.meet.new.self c.ask_for_children.new.agenda.items
           c.in-Some.ensures.items (search rules) (search rules) (rw (c.level_of.ensures, c.deref.ensures.value) at c.in_ok-ask_for_children.ensures)
           (rw (loop.stays.image_stays, loop.stays.shape_stays) at c.in_ok-held.ensures.bytes) (rw (loop.stays.image_stays, loop.stays.shape_stays) at c.in_ok-held.ensures.stands) loop.led;
+      meets = meets_on g.L.Leaf.Holds g.L.Leaf.ends (g.S.Store.shape c.loop-visit.store) c.args.fork.now c.read_visit.new.bytes c.in-Some.visit held
+          c.loop-visit.agenda.items c.pop_front.new.self.items c.ask_for_children.new.agenda.items c.level_of.result c.loop-visit.trail c.meet.new.self
+          c.in-Some.ensures.items (search rules) (search rules) c.in_ok-held.ensures.alone c.in_ok-held.ensures.new loop.meets;
       few = let met : c.meet.new.self ≡ c.met_in.result ∷ c.loop-visit.trail = search rules in let longer = ap length met in omega (arith, loop.few, longer, c.in_ok-held.ensures.fetches);
     }
 
@@ -86,3 +92,31 @@ returns-clause-fetches g c =
     let store = c.args.store.now in
     led_over_reads (λ (x : List ℕ). tree_of g.L.Leaf.Holds g.L.Leaf.ends (g.S.Store.shape store) c.args.fork.now x) (g.S.Store.image store) c.loop-visit.entries.items c.loop-visit.trail c.loop-visit.agenda.items
     (g.S.Store.fetches store) (g.S.Store.fetches c.loop-visit.store) (search rules) (search rules) c.loop-visit.invariant.few c.loop-visit.invariant.led
+
+pub returns-in_err-held-clause-once : goal.returns-in_err-held-clause-once
+returns-in_err-held-clause-once g c =
+    fetches_next c.args.fork.now c.loop-visit.trail c.in-Some.visit c.loop-visit.agenda.items c.pop_front.new.self.items (g.S.Store.fetches c.args.store.now) (g.S.Store.fetches c.loop-visit.store) (g.S.Store.fetches c.read_visit.new.store)
+    c.in-Some.ensures.items c.loop-visit.invariant.meets c.loop-visit.invariant.few (search rules) (search rules)
+
+pub returns-in_err-meet-clause-once : goal.returns-in_err-meet-clause-once
+returns-in_err-meet-clause-once g c =
+    fetches_next c.args.fork.now c.loop-visit.trail c.in-Some.visit c.loop-visit.agenda.items c.pop_front.new.self.items (g.S.Store.fetches c.args.store.now) (g.S.Store.fetches c.loop-visit.store) (g.S.Store.fetches c.read_visit.new.store)
+    c.in-Some.ensures.items c.loop-visit.invariant.meets c.loop-visit.invariant.few (search rules) (search rules)
+
+pub returns-in_err-ask_for_children-clause-once : goal.returns-in_err-ask_for_children-clause-once
+returns-in_err-ask_for_children-clause-once g c =
+    fetches_next c.args.fork.now c.loop-visit.trail c.in-Some.visit c.loop-visit.agenda.items c.pop_front.new.self.items (g.S.Store.fetches c.args.store.now) (g.S.Store.fetches c.loop-visit.store) (g.S.Store.fetches c.read_visit.new.store)
+    c.in-Some.ensures.items c.loop-visit.invariant.meets c.loop-visit.invariant.few (search rules) (search rules)
+
+pub returns-in_err-append-clause-once : goal.returns-in_err-append-clause-once
+returns-in_err-append-clause-once g c =
+    fetches_next c.args.fork.now c.loop-visit.trail c.in-Some.visit c.loop-visit.agenda.items c.pop_front.new.self.items (g.S.Store.fetches c.args.store.now) (g.S.Store.fetches c.loop-visit.store) (g.S.Store.fetches c.read_visit.new.store)
+    c.in-Some.ensures.items c.loop-visit.invariant.meets c.loop-visit.invariant.few (search rules) (search rules)
+
+pub returns-in-Some-open_end-clause-once : goal.returns-in-Some-open_end-clause-once
+returns-in-Some-open_end-clause-once g c =
+    fetches_met c.args.fork.now c.loop-visit.trail c.loop-visit.agenda.items (g.S.Store.fetches c.args.store.now) (g.S.Store.fetches c.loop-visit.store) c.loop-visit.invariant.meets c.loop-visit.invariant.few
+
+pub returns-clause-once : goal.returns-clause-once
+returns-clause-once g c =
+    fetches_met c.args.fork.now c.loop-visit.trail c.loop-visit.agenda.items (g.S.Store.fetches c.args.store.now) (g.S.Store.fetches c.loop-visit.store) c.loop-visit.invariant.meets c.loop-visit.invariant.few
