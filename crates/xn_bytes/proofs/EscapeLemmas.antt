@@ -2,6 +2,8 @@
 use Rattle.std.proofs.Common.{◌≡◌, ◌≢◌, ◌∙◌, ℕ, ◌+◌, ◌-◌, ◌<◌, ◌≤◌, ◌/◌, ◌%◌, Bool, true, false, if◌then◌else◌, List, [], ◌∷◌, ◌++◌, length, take, drop, All, Result, Ok, Err, IfOk, IfErr, MatchResult, refl, ap, sym, arith, append_assoc, length-append, length-drop}
 use Rattle.std.proofs.lemmas.List.{take_at, drop_at, take-append-drop, length-take}
 use Rattle.std.proofs.lemmas.List.Elements.{All-head, All-tail}
+use Rattle.std.proofs.lemmas.Grind.{flat_map-append}
+use Rattle.std.proofs.Math.Seq.{take-add}
 use Rattle.xn_bytes.specs.declared.escaped_text.EscapeFault.{EscapeFault}
 use Rattle.xn_bytes.specs.declared.escaped_text.EscapeFault.TheVariants.{Bad, Memory}
 use Rattle.xn_bytes.specs.Escapes.{stands_for_itself, hex_digit, escaped_byte, escaped, IsFirstBad, IsEscapeFault}
@@ -105,3 +107,11 @@ one_place text m n a b =
     let x : n ≤ m = none_before text m n a b in
     let y : m ≤ n = none_before text n m b a in
     omega arith
+
+-- the text of some bytes more
+pub texts_on : (before now after bytes : List ℕ) (at run : ℕ) → now ≡ before ++ escaped (take at bytes) → after ≡ now ++ escaped (take run (drop at bytes)) → after ≡ before ++ escaped (take (at + run) bytes)
+texts_on before now after bytes at run so_far more =
+    more
+    ∙ ap (λ (front : List ℕ). front ++ escaped (take run (drop at bytes))) so_far
+    ∙ append_assoc before (escaped (take at bytes)) (escaped (take run (drop at bytes)))
+    ∙ ap (λ (text : List ℕ). before ++ text) (sym (flat_map-append escaped_byte (take at bytes) (take run (drop at bytes))) ∙ ap escaped (sym (take-add at run bytes)))

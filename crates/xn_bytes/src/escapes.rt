@@ -1,4 +1,4 @@
-ghost use Rattle.std.specs.Prelude.{◌≡◌, ◌<◌, ◌++◌, length, take, OnOk, OnErr};
+ghost use Rattle.std.specs.Prelude.{◌≡◌, ◌<◌, ◌≤◌, ◌++◌, length, take, IfOk, OnOk, OnErr};
 ghost use Rattle.xn_bytes.specs.Escapes.{stands_for_itself, hex_digit, escaped_byte, escaped};
 
 use crate::Memory;
@@ -24,10 +24,41 @@ fn escape_all(bytes: &[u8], out: &mut Vec<u8>) -> Result<(), AllocError>
     ensures ok { OnOk result (out.new.items ≡ out.old.items ++ escaped bytes.now) }
     ensures err { OnErr result (take (length out.old.items) out.new.items ≡ out.old.items) }
 {
-    for byte in bytes {
-        escape_byte(*byte, out)?;
+    let mut at = 0;
+    while at < bytes.len() {
+        at += escape_run(&bytes[at..], out)?;
     }
     Ok(())
+}
+
+/// Appends the text of the bytes at the front that stand for themselves, or else of the first byte, and answers of how
+/// many bytes.
+fn escape_run(bytes: &[u8], out: &mut Vec<u8>) -> Result<usize, AllocError>
+    requires { 0 < length bytes.now }
+    ensures some { IfOk result (λ run. (0 < run) × (run ≤ length bytes.now)) }
+    ensures ok { IfOk result (λ run. out.new.items ≡ out.old.items ++ escaped (take run bytes.now)) }
+    ensures err { OnErr result (out.new.items ≡ out.old.items) }
+{
+    let plain = plain_front(bytes);
+    if plain == 0 {
+        escape_byte(bytes[0], out)?;
+        return Ok(1);
+    }
+    out.extend_from_slice(&bytes[..plain])?;
+    Ok(plain)
+}
+
+/// How many bytes at the front stand for themselves.
+fn plain_front(bytes: &[u8]) -> usize
+    ensures within { result ≤ length bytes.now }
+    ensures plain { escaped (take result bytes.now) ≡ take result bytes.now }
+{
+    for at in 0..bytes.len() {
+        if !is_plain(bytes[at]) {
+            return at;
+        }
+    }
+    bytes.len()
 }
 
 fn escape_byte(byte: u8, out: &mut Vec<u8>) -> Result<(), AllocError>

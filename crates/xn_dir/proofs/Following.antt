@@ -1,6 +1,6 @@
 -- The entry to which a leaf entry leads.
 use Rattle.std.proofs.Common.{◌≡◌, ◌≢◌, ℕ, ◌+◌, ◌*◌, ◌/◌, ◌%◌, ◌<◌, false, List, [], ◌∷◌, length, get_or, Option, Some, None, Result, Ok, Err, refl, sym, ap, subst, ◌∙◌, arith, inl, inr}
-use Rattle.std.specs.Prelude.{Contains, flat_map, IfSome, IfOk, MatchOption}
+use Rattle.std.specs.Prelude.{Contains, flat_map, IfSome, IfErr, MatchOption}
 use Rattle.std.proofs.lemmas.Bool.{cases_eq}
 use Rattle.std.proofs.lemmas.List.{get_or_default}
 use Rattle.std.proofs.lemmas.List.Elements.{All-contains, Contains-append_cases}
@@ -145,9 +145,10 @@ pub IfSome_both : (image : Option (List ℕ)) {P Q R : List ℕ → Type 0} → 
 IfSome_both None p q leads = tt
 IfSome_both (Some x) p q leads = leads x p q
 
-pub IfOk_both : {T E : Type 0} (r : Result T E) {P Q R : T → Type 0} → IfOk r P → IfOk r Q → ((value : T) → P value → Q value → R value) → IfOk r R
-IfOk_both (Ok value) p q leads = leads value p q
-IfOk_both (Err fault) p q leads = tt
+-- what holds in any case holds where a result is a fault
+pub IfErr_all : {T E : Type 0} (r : Result T E) (P : Type 0) → P → IfErr r (λ _. P)
+IfErr_all (Ok value) P p = tt
+IfErr_all (Err fault) P p = p
 
 -- ---- one leaf entry after the other
 

@@ -9,7 +9,7 @@ use Rattle.xn_bytes.specs.Entries as held
 use Rattle.xn_bytes.specs.DirectoryForms.{HasBlocksSize, data_runs_of}
 use Rattle.xn_bytes.specs.LeafForms.{DirFork, HoldsHashed, IsInBlocks, data_fork_in}
 use Rattle.xn_bytes.specs.DirectoryHolds.{DirHolds, HasDotdot}
-use Rattle.xn_bytes.specs.Costs.{HasLookUpCost, IsHashCost, IsLookUpCost, list_cost, mapped_count}
+use Rattle.xn_bytes.specs.Costs.{HasLookUpCost, IsHashCost, IsLookUpCost, hash_most, list_cost, look_up_most, mapped_count}
 use Rattle.xn_inode.specs.declared.store.Store.{Ghosts}
 use Rattle.xn_inode.specs.Frames.{StoreStays}
 use Rattle.xn_inode.specs.declared.fork_fault.ForkFault.{ForkFault}
@@ -129,14 +129,22 @@ look_up_hashed g dir image inode fork hash before mid after same form is first f
     (λ x shown reads cost costs. hashed_cost g dir (inode_of g x dir) (block_of g x) hash cost before after (in_form g dir x inode shown form)
     (λ of_hash is_cost. let read = reads of_hash (subst (λ (d : DirFork). IsHashCost d hash of_hash) (sym (fork_is g dir x inode fork is shown)) is_cost) in omega (arith, read, first)) costs)
 
+pub most_hashed : (g : Geometry) (dir : ℕ) (image : Option (List ℕ)) (inode : List ℕ) (fork : Fork) (before mid after : ℕ) → IfSome image (λ x. inode ≡ inode_of g x dir) → IsOfForm inode forms.Hashed → IsForkOf dir inode fork → mid ≤ before + 1
+    → after ≤ mid + hash_most fork.extents → IfSome image (λ x. after ≤ before + look_up_most (inode_of g x dir))
+most_hashed g dir image inode fork before mid after same form is first few =
+    IfSome_then image same
+    (λ x shown. rw (← shown) (let most : look_up_most inode ≡ 1 + hash_most (data_runs_of inode) = rw form.is_extents refl in
+    let runs : hash_most fork.extents ≡ hash_most (data_runs_of inode) = ap hash_most is.runs in
+    omega (arith, first, few, most, runs)))
+
 -- the number of blocks, by the inode and the data fork
 pub list_hashed : (g : Geometry) (dir : ℕ) (image : Option (List ℕ)) (inode : List ℕ) (fork : Fork) (before mid after : ℕ) → IfSome image (λ x. inode ≡ inode_of g x dir) → IsOfForm inode forms.Hashed → IsForkOf dir inode fork → mid ≤ before + 1
-    → IfSome image (λ _. after ≤ mid + mapped_count fork.extents) → IfSome image (λ x. after ≤ before + list_cost (inode_of g x dir))
+    → after ≤ mid + mapped_count fork.extents → IfSome image (λ x. after ≤ before + list_cost (inode_of g x dir))
 list_hashed g dir image inode fork before mid after same form is first few =
-    IfSome_both image same few
-    (λ x shown reads. rw (← shown) (let cost : list_cost inode ≡ 1 + mapped_count (data_runs_of inode) = rw form.is_extents refl in
+    IfSome_then image same
+    (λ x shown. rw (← shown) (let cost : list_cost inode ≡ 1 + mapped_count (data_runs_of inode) = rw form.is_extents refl in
     let count : mapped_count fork.extents ≡ mapped_count (data_runs_of inode) = ap mapped_count is.runs in
-    omega (arith, first, reads, cost, count)))
+    omega (arith, first, few, cost, count)))
 
 -- ---- what a directory holds
 

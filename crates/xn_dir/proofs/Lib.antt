@@ -1,6 +1,7 @@
 pub mod OneBlock
 pub mod InodeFaults
 pub mod Names
+pub mod HashedNames
 pub mod Collecting
 pub mod ShortForms
 pub mod Members
@@ -16,6 +17,7 @@ pub mod LeafEntries
 pub mod LookingUp
 pub mod OverImages
 pub mod HashedOver
+pub mod Reaching
 pub mod IndexOver
 pub mod ListOver
 pub mod BlockReads
@@ -23,3 +25,4 @@ pub mod Comparing
 pub mod Noted
 pub mod FreeBlocks
 pub mod Gatherings
+pub mod NotListed

@@ -24,7 +24,7 @@ filter_yes p x xs t = rw t refl
 filter_no : {X : Type 0} (p : X → Bool) (x : X) (xs : List X) → p x ≡ false → filter p (x ∷ xs) ≡ filter p xs
 filter_no p x xs f = rw f refl
 
-yes_or_no : (b : Bool) → (b ≡ true) ⊎ (b ≡ false)
+pub yes_or_no : (b : Bool) → (b ≡ true) ⊎ (b ≡ false)
 yes_or_no true = inl refl
 yes_or_no false = inr refl
 

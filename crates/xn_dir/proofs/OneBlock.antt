@@ -1,14 +1,12 @@
 -- A list of runs that maps file block 0 alone, and a list of which each block is one that a fork may map.
-use Rattle.std.proofs.Common.{◌≡◌, ℕ, ◌+◌, ◌<◌, ◌≤◌, List, [], ◌∷◌, length, get_or, refl, sym, ap, ◌∙◌, subst, arith, inl, inr}
+use Rattle.std.proofs.Common.{◌≡◌, ℕ, ◌+◌, ◌<◌, ◌≤◌, List, [], ◌∷◌, length, refl, sym, ap, ◌∙◌, arith, inl, inr}
 use Rattle.std.specs.Prelude.{◌-◌, Option, Some, None, slice_get}
 use Rattle.std.proofs.lemmas.Bool.{cases_eq}
 use Rattle.std.proofs.lemmas.Grind.{common_steps}
 use Rattle.std.proofs.lemmas.Bool.Decides.{nat_tests}
 use Rattle.std.proofs.lemmas.Option.{get_or_from_slice_get}
-use Rattle.xn_bytes.specs.Superblock.{Geometry}
-use Rattle.xn_bytes.specs.Blocks.{IsHome}
 use Rattle.xn_bytes.specs.Extents.{Run, AreRuns, mapped, end_of_run}
-use Rattle.xn_bytes.specs.DirectoryForms.{IsBlockForm, AreHome}
+use Rattle.xn_bytes.specs.DirectoryForms.{IsBlockForm}
 
 -- ---- file block 0 alone
 
@@ -73,24 +71,3 @@ pub not_first : (runs : List Run) (file_block at count : ℕ) → AreRuns 0 runs
 not_first runs file_block at count rise first other block alone =
     let one = is_one_run runs block rise alone in
     other (one.file_block _ first, one.count _ first)
-
--- ---- blocks that a fork may map
-
-abbrev pub AreHomeBelow : Geometry → ℕ → List Run → Type 0
-AreHomeBelow g n runs = (i : ℕ) (d : Run) → i < n → (k : ℕ) → k < (get_or runs i d).count → IsHome g ((get_or runs i d).block + k)
-
-pub one_more_home : (g : Geometry) (n : ℕ) (runs : List Run) (file_block block count : ℕ) → slice_get runs n ≡ Some (record { file_block = file_block; block = block; count = count })
-    → ((k : ℕ) → k < count → IsHome g (block + k)) → AreHomeBelow g n runs → AreHomeBelow g (n + 1) runs
-one_more_home g n runs file_block block count here home before i d below = elim (cases_eq i n) [
-  | inl e ↦
-      let is : get_or runs i d ≡ record { file_block = file_block; block = block; count = count } = ap (λ (m : ℕ). get_or runs m d) e ∙ get_or_from_slice_get runs n _ d here in
-      rw is home
-  | inr other ↦ before i d (omega arith)
-]
-
-pub one_not_home : (g : Geometry) (n : ℕ) (runs : List Run) (file_block block count : ℕ) → n < length runs → slice_get runs n ≡ Some (record { file_block = file_block; block = block; count = count })
-    → (((k : ℕ) → k < count → IsHome g (block + k)) → ⊥) → AreHome g runs → ⊥
-one_not_home g n runs file_block block count within here wrong all =
-    let first : Run = record { file_block = file_block; block = block; count = count } in
-    let is : get_or runs n first ≡ first = get_or_from_slice_get runs n first first here in
-    wrong (subst (λ (run : Run). (k : ℕ) → k < run.count → IsHome g (run.block + k)) is (all n first within))

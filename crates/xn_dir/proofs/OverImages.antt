@@ -1,19 +1,18 @@
 -- From the bytes of an inode and a block to the image that shows them.
-use Rattle.std.proofs.Common.{◌≡◌, ◌≢◌, ℕ, zero, suc, get_or, ◌+◌, ◌*◌, ◌≤◌, ◌<◌, List, [], ◌∷◌, Option, Some, None, Result, Ok, Err, refl, sym, ap, subst, ◌∙◌, arith, inl, inr}
-use Rattle.std.specs.Prelude.{◌-◌, IfOk, IfSome, IsSome}
-use Rattle.std.proofs.lemmas.Bool.{cases_lt, cases_eq}
-use Rattle.std.proofs.lemmas.Grind.{common_steps}
-use Rattle.std.proofs.lemmas.Bool.Decides.{nat_tests}
+use Rattle.std.proofs.Common.{◌≡◌, ◌≢◌, ℕ, zero, suc, get_or, ◌+◌, ◌*◌, ◌≤◌, ◌<◌, Bool, true, false, List, [], ◌∷◌, Option, Some, None, Result, Ok, Err, refl, sym, ap, ◌∙◌, arith, inl, inr}
+use Rattle.std.specs.Prelude.{◌==◌, if◌then◌else◌, IfOk, IfSome, IsSome}
+use Rattle.std.proofs.lemmas.Bool.{cases_eq}
 use Rattle.std.proofs.lemmas.Option.{IfSome_then}
 use Rattle.xn_bytes.specs.Superblock.{Geometry, IsBlock}
-use Rattle.xn_bytes.specs.Blocks.{block_of, IsHome}
-use Rattle.xn_bytes.specs.Inode.{CoreFields, inode_of}
-use Rattle.xn_bytes.specs.Extents.{Run, mapped, end_of_run}
+use Rattle.xn_bytes.specs.Blocks.{block_of}
+use Rattle.xn_bytes.specs.Numbers.{number_at}
+use Rattle.xn_bytes.specs.Inode.{CoreFields, inode_of, local_format}
+use Rattle.xn_bytes.specs.Extents.{Run, mapped}
 use Rattle.xn_bytes.specs.Entries as held
 use Rattle.xn_bytes.specs.DataBlock.{DataForm, DataHolds, entries_among}
-use Rattle.xn_bytes.specs.DirectoryForms.{AreHome, HasBlocksSize, data_runs_of, HoldsShort, HoldsFirst, HasTail, IsIndexOf}
+use Rattle.xn_bytes.specs.DirectoryForms.{HasBlocksSize, data_runs_of, HoldsShort, HoldsFirst, HasTail, IsIndexOf}
 use Rattle.xn_bytes.specs.DirectoryHolds.{DirHolds, EntriesStand, HasDotdot}
-use Rattle.xn_bytes.specs.Costs.{HasLookUpCost, IsLookUpCost, list_cost, mapped_count}
+use Rattle.xn_bytes.specs.Costs.{HasLookUpCost, IsLookUpCost, hash_most, list_cost, look_up_most, mapped_count}
 use Rattle.xn_bytes.specs.DirectoryRules.{HasInode, OrBreaksInode, OrBreaksForm}
 use Rattle.xn_bytes.specs.ShortDirectory.{ShortForm, ShortHolds}
 use Rattle.xn_bytes.specs.Directory.{HasShortSize, short_bytes_of}
@@ -26,30 +25,12 @@ use Rattle.xn_dir.specs.Inodes.{IsDirectory, IsSoundInode, IsOfForm}
 use Rattle.xn_dir.specs.Faults.{IsFormFault, IsShortFault, IsFirstFault, IsFaultOver, Breaks}
 use Rattle.xn_dir.specs.Finding.{Finds, RestsOnAll, StandsOver, StandsInFirst}
 use Rattle.xn_inode.proofs.Counts.{few_of_mapped}
+use Rattle.xn_inode.proofs.HomeLists.{mapped_home}
 use Rattle.xn_dir.proofs.ShortForms as short
+use Rattle.xn_dir.proofs.Following.{every}
 use Rattle.xn_dir.proofs.OneForm.{in_extents}
 
 -- ---- the block of block form
-
-pub mapped_home : (g : Geometry) (runs : List Run) (file_block block : ℕ) → AreHome g runs → mapped runs file_block ≡ Some block → IsHome g block
-mapped_home g [] file_block block home is = absurd cc
-mapped_home g (run ∷ runs) file_block block home is =
-    let rest : mapped runs file_block ≡ Some block → IsHome g block = mapped_home g runs file_block block (λ k d below. home (suc k) d (omega (arith, below))) in
-    elim (cases_lt file_block run.file_block) [
-      | inl before ↦
-          let past : mapped (run ∷ runs) file_block ≡ mapped runs file_block = grind (arith, nat_tests, common_steps) in
-          rest (sym past ∙ is)
-      | inr from ↦ elim (cases_lt file_block (end_of_run run)) [
-        | inl within ↦
-            let here : mapped (run ∷ runs) file_block ≡ Some (run.block + (file_block - run.file_block)) = grind (arith, nat_tests, common_steps) in
-            let same : Some (run.block + (file_block - run.file_block)) ≡ Some block = sym here ∙ is in
-            let block_is : run.block + (file_block - run.file_block) ≡ block = cc in
-            subst (IsHome g) block_is (home 0 run (omega arith) (file_block - run.file_block) (omega arith))
-        | inr behind ↦
-            let past : mapped (run ∷ runs) file_block ≡ mapped runs file_block = grind (arith, nat_tests, common_steps) in
-            rest (sym past ∙ is)
-      ]
-    ]
 
 pub block_in_range : (g : Geometry) (dir : ℕ) (inode : List ℕ) (core : CoreFields) (block : ℕ) → IsSoundInode g dir inode core → IsOfForm inode (forms.Block block) → IsBlock g block
 block_in_range g dir inode core block sound form = (mapped_home g (data_runs_of inode) 0 block (sound.lists.of_data form.0).home form.1.first).place
@@ -211,19 +192,28 @@ parent_block g dir (Some x) inode bytes block dotdot same shown form size holds 
 
 -- ---- what is read
 
--- what holds in any case holds where a result is Ok
-pub OnOk_all : {T E : Type 0} (r : Result T E) (P : Type 0) → P → IfOk r (λ _. P)
-OnOk_all (Ok value) P p = p
-OnOk_all (Err fault) P p = tt
+-- a look-up and a list read the inode at least
+one_or_more : (b : Bool) (n : ℕ) → 1 ≤ (if b then 1 else 1 + n)
+one_or_more true n = omega arith
+one_or_more false n = omega arith
 
-block_cost : (g : Geometry) (dir : ℕ) (inode : List ℕ) (blocks : ℕ → List ℕ) (block hash cost before after : ℕ) → IsOfForm inode (forms.Block block) → after ≤ before + 2 → IsLookUpCost g dir inode blocks hash cost → after ≤ before + cost
-block_cost g dir inode blocks block hash cost before after form few (inl short) = absurd (in_extents inode form.0 short.0)
-block_cost g dir inode blocks block hash cost before after form few (inr (inl one)) = omega (arith, few, one.2)
-block_cost g dir inode blocks block hash cost before after form few (inr (inr hashed)) = absurd (hashed.0.not_alone block form.1)
+one_at_least : (g : Geometry) (dir : ℕ) (inode : List ℕ) (blocks : ℕ → List ℕ) (hash cost : ℕ) → IsLookUpCost g dir inode blocks hash cost → 1 ≤ cost
+one_at_least g dir inode blocks hash cost (inl short) = omega (arith, short.1)
+one_at_least g dir inode blocks hash cost (inr (inl block)) = omega (arith, block.2)
+one_at_least g dir inode blocks hash cost (inr (inr hashed)) = omega (arith, hashed.1.2)
 
-pub list_short : (g : Geometry) (dir : ℕ) (image : Option (List ℕ)) (inode : List ℕ) (before after : ℕ) → IfSome image (λ x. inode ≡ inode_of g x dir) → IsOfForm inode forms.Short → after ≤ before + 1
-    → IfSome image (λ x. after ≤ before + list_cost (inode_of g x dir))
-list_short g dir image inode before after same form few = IfSome_then image same (λ x is. rw (← is) (let one : list_cost inode ≡ 1 = rw form refl in omega (arith, few, one)))
+pub look_up_inode : (g : Geometry) (dir : ℕ) (image : Option (List ℕ)) (hash before after : ℕ) → after ≤ before + 1
+    → IfSome image (λ x. (cost : ℕ) → HasLookUpCost g x dir hash cost → after ≤ before + cost)
+look_up_inode g dir image hash before after few =
+    every image _ (λ x cost costs. let one = one_at_least g dir (inode_of g x dir) (block_of g x) hash cost costs in omega (arith, few, one))
+
+pub most_inode : (g : Geometry) (dir : ℕ) (image : Option (List ℕ)) (before after : ℕ) → after ≤ before + 1 → IfSome image (λ x. after ≤ before + look_up_most (inode_of g x dir))
+most_inode g dir image before after few =
+    every image _ (λ x. let one = one_or_more (number_at 1 5 (inode_of g x dir) == local_format) (hash_most (data_runs_of (inode_of g x dir))) in omega (arith, few, one))
+
+pub list_inode : (g : Geometry) (dir : ℕ) (image : Option (List ℕ)) (before after : ℕ) → after ≤ before + 1 → IfSome image (λ x. after ≤ before + list_cost (inode_of g x dir))
+list_inode g dir image before after few =
+    every image _ (λ x. let one = one_or_more (number_at 1 5 (inode_of g x dir) == local_format) (mapped_count (data_runs_of (inode_of g x dir))) in omega (arith, few, one))
 
 one_only : (P : ℕ → Type 0) (k d : ℕ) → k < 1 → P 0 → P (get_or (0 ∷ []) k d)
 one_only P zero d below holds = holds
@@ -239,15 +229,17 @@ list_block g dir image inode block before after same form few = IfSome_then imag
     let some = one_mapped (data_runs_of inode) (rw form.1.first refl) in
     omega (arith, few, cost, some)))
 
+block_cost : (g : Geometry) (dir : ℕ) (inode : List ℕ) (blocks : ℕ → List ℕ) (block hash cost before after : ℕ) → IsOfForm inode (forms.Block block) → after ≤ before + 2 → IsLookUpCost g dir inode blocks hash cost → after ≤ before + cost
+block_cost g dir inode blocks block hash cost before after form few (inl short) = absurd (in_extents inode form.0 short.0)
+block_cost g dir inode blocks block hash cost before after form few (inr (inl one)) = omega (arith, few, one.2)
+block_cost g dir inode blocks block hash cost before after form few (inr (inr hashed)) = absurd (hashed.0.not_alone block form.1)
+
 pub look_up_block : (g : Geometry) (dir : ℕ) (image : Option (List ℕ)) (inode : List ℕ) (block hash before after : ℕ) → IfSome image (λ x. inode ≡ inode_of g x dir) → IsOfForm inode (forms.Block block) → after ≤ before + 2
     → IfSome image (λ x. (cost : ℕ) → HasLookUpCost g x dir hash cost → after ≤ before + cost)
 look_up_block g dir image inode block hash before after same form few = IfSome_then image same (λ x is cost costs. block_cost g dir (inode_of g x dir) (block_of g x) block hash cost before after (rw is at form) few costs)
 
-short_cost : (g : Geometry) (dir : ℕ) (inode : List ℕ) (blocks : ℕ → List ℕ) (hash cost before after : ℕ) → IsOfForm inode forms.Short → after ≤ before + 1 → IsLookUpCost g dir inode blocks hash cost → after ≤ before + cost
-short_cost g dir inode blocks hash cost before after form few (inl short) = omega (arith, few, short.1)
-short_cost g dir inode blocks hash cost before after form few (inr (inl one)) = absurd (in_extents inode one.0 form)
-short_cost g dir inode blocks hash cost before after form few (inr (inr hashed)) = absurd (in_extents inode hashed.0.is_extents form)
-
-pub look_up_short : (g : Geometry) (dir : ℕ) (image : Option (List ℕ)) (inode : List ℕ) (hash before after : ℕ) → IfSome image (λ x. inode ≡ inode_of g x dir) → IsOfForm inode forms.Short → after ≤ before + 1
-    → IfSome image (λ x. (cost : ℕ) → HasLookUpCost g x dir hash cost → after ≤ before + cost)
-look_up_short g dir image inode hash before after same form few = IfSome_then image same (λ x is cost costs. short_cost g dir (inode_of g x dir) (block_of g x) hash cost before after (rw is at form) few costs)
+pub most_block : (g : Geometry) (dir : ℕ) (image : Option (List ℕ)) (inode : List ℕ) (block before after : ℕ) → IfSome image (λ x. inode ≡ inode_of g x dir) → IsOfForm inode (forms.Block block) → after ≤ before + 2
+    → IfSome image (λ x. after ≤ before + look_up_most (inode_of g x dir))
+most_block g dir image inode block before after same form few = IfSome_then image same
+    (λ x is. rw (← is) (let most : look_up_most inode ≡ 1 + hash_most (data_runs_of inode) = rw form.0 refl in
+    omega (arith, few, most)))

@@ -1,6 +1,6 @@
 //! Rule 17: the data blocks of a directory in leaf or node form, and what the rules behind it need of them.
 
-ghost use Rattle.std.specs.Prelude.{◌≡◌, ◌+◌, ◌++◌, ◌*◌, ◌<◌, ◌≤◌, ℕ, List, [], All, IfErr, IfOk, IfSome, MatchResult, OnOk, Some, flat_map, map, true};
+ghost use Rattle.std.specs.Prelude.{◌≡◌, ◌+◌, ◌++◌, ◌*◌, ◌<◌, ◌≤◌, ℕ, List, [], All, IfErr, IfOk, IfSome, MatchResult, OnOk, Some, flat_map, map, false, true};
 ghost use Rattle.xn_bytes.specs.Extents.{mapped};
 ghost use Rattle.xn_bytes.specs.Trees.{AreBlocks};
 ghost use Rattle.xn_bytes.specs.Names.{IsName};
@@ -13,7 +13,7 @@ ghost use Rattle.xn_bytes.specs.LeafForms.{HasData, IsPlaced, Placed, all_entrie
 ghost use Rattle.xn_data.specs.Viewed.{entry_of as read_as};
 ghost use Rattle.xn_inode.specs.Frames.{StoreStays};
 ghost use Rattle.xn_inode.specs.declared.fork_fault.ForkFault.TheVariants.{Memory};
-ghost use Rattle.xn_dir.specs.Faults.{IsHashedFault};
+ghost use Rattle.xn_dir.specs.Faults.{IsHashedFault, IsRule};
 ghost use Rattle.xn_dir.specs.Gathering.{Adds, FetchesBelow, FetchesData, Gathers, GathersBelow, Lists};
 ghost use Rattle.xn_dir.specs.Hashed.{dir_fork};
 ghost use Rattle.xn_dir.specs.Listings.{entry_of};
@@ -21,17 +21,13 @@ ghost use Rattle.xn_dir.specs.Listings.{entry_of};
 use crate::bests::Best;
 use crate::data::{data_block, take_dots};
 use crate::listing::{Listed, entry_to_list};
+use crate::sizes::{BLOCK_BYTES, LEAF_FILE_BLOCK};
 use std::alloc::{AllocError, Global};
-use xn_bytes::{is_name, name_hash};
+use xn_bytes::name_hash;
 use xn_data::{DataBlock, DataEntries, DataEntry};
 use xn_datree::Fork;
 use xn_inode::{ForkFault, Store};
 use xn_leaf::HashAt;
-
-const BLOCK_BYTES: usize = 4096;
-
-/// The file block behind those of data blocks.
-const END_OF_DATA: u64 = 8_388_608;
 
 /// What the data blocks of a directory in leaf or node form were read to hold.
 #[derive(Drop)]
@@ -62,7 +58,7 @@ pub(crate) fn gather<S: Store>(
 {
     let mut gathered = gather_first(alloc, store, fork)?;
     let mut from = 1;
-    while let Some((number, block)) = fork.extents.next_mapped(from, END_OF_DATA) {
+    while let Some((number, block)) = fork.extents.next_mapped(from, LEAF_FILE_BLOCK) {
         gather_next(alloc, store, fork, number, block, &mut gathered)?;
         from = number + 1;
     }
@@ -178,10 +174,10 @@ fn add_listed(
     ensures fault { IfErr result (λ fault. fault ≡ Memory) }
 {
     for entry in entries {
-        if !is_name(entry.name) {
-            return Ok(false);
+        match listed_at(alloc, number, &entry) {
+            Ok(one) => listed.push(one)?,
+            Err(fault) => return not_listed(fault),
         }
-        listed.push(listed_at(alloc, number, &entry)?)?;
     }
     Ok(true)
 }
@@ -190,10 +186,9 @@ fn add_listed(
 fn listed_at(alloc: Global, number: u64, entry: &DataEntry<'_>) -> Result<Listed, ForkFault>
     requires number { number < leaf_file_block }
     requires position { entry.now.position < 4096 }
-    requires name { IsName entry.now.name.now }
     ensures { MatchResult result
-        (λ listed. entry_of listed ≡ placed_in number (read_as entry.now))
-        (λ fault. fault ≡ Memory) }
+        (λ listed. (entry_of listed ≡ placed_in number (read_as entry.now)) × IsName entry.now.name.now)
+        (IsRule 21 (IsName entry.now.name.now)) }
 {
     entry_to_list(
         alloc,
@@ -202,6 +197,16 @@ fn listed_at(alloc: Global, number: u64, entry: &DataEntry<'_>) -> Result<Listed
         entry.kind,
         position_in(number, entry.position),
     )
+}
+
+/// What is answered for an entry that is not listed: that it has no name, unless memory ran out.
+fn not_listed(fault: ForkFault) -> Result<bool, ForkFault>
+    ensures { (name : List ℕ) → IsRule 21 (IsName name) fault → MatchResult result (λ are_names. (are_names ≡ false) × ¬ IsName name) (λ fault. fault ≡ Memory) }
+{
+    match fault {
+        ForkFault::Broken { .. } => Ok(false),
+        other => Err(other),
+    }
 }
 
 /// A position in the directory's data, by the place in a data block.

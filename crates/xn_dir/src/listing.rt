@@ -1,11 +1,12 @@
 //! Entries with their names, as a listing has them.
 
-ghost use Rattle.std.specs.Prelude.{◌≡◌, ◌≢◌, ◌↔◌, IsTrue, IfOk, IsPermutation, List, OnOk, AllPairs, MatchResult, length, map};
+ghost use Rattle.std.specs.Prelude.{◌≡◌, ◌≢◌, ◌∷◌, ◌↔◌, IsTrue, IfOk, IsPermutation, List, OnOk, AllPairs, MatchResult, length, map};
 ghost use Rattle.std.specs.List.{AllAdjacentBelow};
 ghost use Rattle.std.specs.Ordering.{nat_cmp};
 ghost use Rattle.std.specs.Cmp.Lexicographic.{slice_cmp};
 ghost use Rattle.std.specs.declared.cmp.Ordering.TheVariants.{Less};
 ghost use Rattle.xn_bytes.specs.Names.{IsName};
+ghost use Rattle.xn_bytes.specs.Hashes.{name_hash_of};
 ghost use Rattle.xn_bytes.specs.Directory.{HasNames};
 ghost use Rattle.xn_bytes.specs.Entries.{Entry};
 ghost use Rattle.xn_dir.specs.Faults.{IsRule};
@@ -13,7 +14,8 @@ ghost use Rattle.xn_dir.specs.Listings.{entry_of, name_of, AreSorted};
 
 use crate::form::broken;
 use std::alloc::{AllocError, Global};
-use xn_bytes::{Kind, Name, is_name};
+use std::cmp::Ordering;
+use xn_bytes::{Kind, Name, NameFault, name_hash};
 use xn_inode::ForkFault;
 
 /// An entry of a directory, with its name.
@@ -39,9 +41,6 @@ pub(crate) fn entry_to_list(
         (λ listed. (entry_of listed ≡ record { name = name.now; ino = ino; kind = kind; position = position }) × IsName name.now)
         (IsRule 21 (IsName name.now)) }
 {
-    if !is_name(name) {
-        return Err(broken(21));
-    }
     match Name::read(alloc, name) {
         Ok(name) => Ok(Listed {
             name,
@@ -49,7 +48,8 @@ pub(crate) fn entry_to_list(
             kind,
             position,
         }),
-        Err(_) => Err(ForkFault::Memory),
+        Err(NameFault::Memory) => Err(ForkFault::Memory),
+        Err(_) => Err(broken(21)),
     }
 }
 
@@ -66,32 +66,52 @@ pub(crate) fn check_once(alloc: Global, listed: &[Listed]) -> Result<(), ForkFau
     }
 }
 
-/// The names, sorted by their bytes.
-fn sorted_names(alloc: Global, listed: &[Listed]) -> Result<Vec<&[u8]>, AllocError>
-    ensures same { IfOk result (λ names. IsPermutation (map name_of listed.now) (map (λ name. name.now) names.items)) }
-    ensures sorted { IfOk result (λ names. AreSorted (map (λ name. name.now) names.items)) }
+/// A name with its hash.
+#[derive(Clone, Copy, Debug)]
+struct HashedName<'a> {
+    hash: u32,
+    name: &'a [u8],
+}
+
+/// The names, sorted by their hashes, and those of one hash by their bytes. So the bytes of names are seldom compared.
+fn sorted_names(alloc: Global, listed: &[Listed]) -> Result<Vec<HashedName<'_>>, AllocError>
+    ensures same { IfOk result (λ names. IsPermutation (map (λ entry. name_hash_of (name_of entry) ∷ name_of entry) listed.now) (map (λ name. name.hash ∷ name.name.now) names.items)) }
+    ensures sorted { IfOk result (λ names. AreSorted (map (λ name. name.hash ∷ name.name.now) names.items)) }
 {
     let mut names = names_of(alloc, listed)?;
-    names.sort_by_key(|name| *name)?;
+    // The hashes alone are sorted fastest. The second sort finds nearly all in place.
+    names.sort_by_cached_key(|name| name.hash)?;
+    names.sort_by(|name, other| compare(name, other))?;
     Ok(names)
 }
 
-fn names_of(alloc: Global, listed: &[Listed]) -> Result<Vec<&[u8]>, AllocError>
-    ensures { IfOk result (λ names. map (λ name. name.now) names.items ≡ map name_of listed.now) }
+fn names_of(alloc: Global, listed: &[Listed]) -> Result<Vec<HashedName<'_>>, AllocError>
+    ensures { IfOk result (λ names. map (λ name. name.hash ∷ name.name.now) names.items ≡ map (λ entry. name_hash_of (name_of entry) ∷ name_of entry) listed.now) }
 {
     let mut names = Vec::with_capacity(alloc, listed.len())?;
     for entry in listed {
-        names.push(entry.name.bytes())?;
+        let name = entry.name.bytes();
+        let hash = name_hash(name);
+        names.push(HashedName { hash, name })?;
     }
     Ok(names)
 }
 
+fn compare(name: &HashedName<'_>, other: &HashedName<'_>) -> Ordering
+    ensures { result ≡ slice_cmp nat_cmp (name.now.hash ∷ name.now.name.now) (other.now.hash ∷ other.now.name.now) }
+{
+    match name.hash.cmp(&other.hash) {
+        Ordering::Equal => name.name.cmp(other.name),
+        unequal => unequal,
+    }
+}
+
 /// Whether each name comes before the next.
-fn rise(names: &[&[u8]]) -> bool
-    ensures { IsTrue result ↔ AllAdjacentBelow (λ a b. slice_cmp nat_cmp a.now b.now ≡ Less) names.now (length names.now) }
+fn rise(names: &[HashedName<'_>]) -> bool
+    ensures { IsTrue result ↔ AllAdjacentBelow (λ a b. slice_cmp nat_cmp (a.hash ∷ a.name.now) (b.hash ∷ b.name.now) ≡ Less) names.now (length names.now) }
 {
     for next in 1..names.len() {
-        if !names[next - 1].cmp(names[next]).is_lt() {
+        if !compare(&names[next - 1], &names[next]).is_lt() {
             return false;
         }
     }

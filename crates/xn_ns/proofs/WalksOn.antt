@@ -32,10 +32,6 @@ IsOn g path x here rest = (taken : List (List ℕ)) × (parts_of path ≡ taken 
 abbrev pub LeadsHere : Geometry → Option (List ℕ) → List ℕ → Reached → List ℕ → Type 0
 LeadsHere g image path here rest = IfSome image (λ x. IsOn g path x here (parts_of rest))
 
-pub begins_here : (g : Geometry) (image : Option (List ℕ)) (path : List ℕ) → LeadsHere g image path (root_place g) path
-begins_here g None path = tt
-begins_here g (Some x) path = ([], refl, refl)
-
 ends_of : (g : Geometry) (path x : List ℕ) (here : Reached) (rest : List (List ℕ)) (end : End) → IsOn g path x here rest → Walks (TakesInImage g x) here rest end → ResolveEnds g path x end
 ends_of g path x here rest end (taken, is, reaches) walk = subst (λ (ps : List (List ℕ)). Walks (TakesInImage g x) (root_place g) ps end) (sym is) (walks_from (TakesInImage g x) (root_place g) here taken rest end reaches walk)
 

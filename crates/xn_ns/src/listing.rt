@@ -22,12 +22,13 @@ use xn_text::{Lines, ListLine, Reply};
 
 /// What `list` of an inode answers: the entries of a directory, sorted by the bytes of their names; `ENOENT` where the
 /// inode is not live, or a directory that no entry names; `ENOTDIR` where it is none. It reads the inode where it is live
-/// and, where it is the root's or that of a directory with a link, what the directory's form needs.
+/// and, where it is the root's or that of a directory with a link, what the directory's form needs; else nothing more.
 pub fn list<S: Store>(alloc: Global, store: &mut S, ino: u64) -> Result<Reply, SeeFault>
     requires whole { S.IsWhole store.old }
     ensures answered { Answered (ListEnds (S.shape store.old) ino) (S.image store.old) (S.faults store.old) (S.faults store.new) result }
     ensures stays { StoreStays S.Store store.old store.new }
-    ensures fetches { IfOk result (λ _. IfSome (S.image store.old) (λ x. S.fetches store.new ≤ S.fetches store.old + 1 + list_cost (inode_of (S.shape store.old) x ino))) }
+    ensures fetches { IfSome (S.image store.old) (λ x. S.fetches store.new ≤ S.fetches store.old + 1 + list_cost (inode_of (S.shape store.old) x ino)) }
+    ensures looks { IfSome (S.image store.old) (λ x. ¬ IsAttached (S.shape store.old) (inode_of (S.shape store.old) x ino) ino → S.fetches store.new ≤ S.fetches store.old + 1) }
 {
     match look_at(store, ino)? {
         Sight::Gone | Sight::Detached => Ok(Reply::Error(Errno::ENOENT)),
@@ -48,7 +49,7 @@ fn list_directory<S: Store>(alloc: Global, store: &mut S, dir: u64) -> Result<Re
     requires attached { IfSome (S.image store.old) (λ x. IsAttached (S.shape store.old) (inode_of (S.shape store.old) x dir) dir) }
     ensures answered { Answered (ListsDirectory (S.shape store.old) dir) (S.image store.old) (S.faults store.old) (S.faults store.new) result }
     ensures stays { StoreStays S.Store store.old store.new }
-    ensures fetches { IfOk result (λ _. IfSome (S.image store.old) (λ x. S.fetches store.new ≤ S.fetches store.old + list_cost (inode_of (S.shape store.old) x dir))) }
+    ensures fetches { IfSome (S.image store.old) (λ x. S.fetches store.new ≤ S.fetches store.old + list_cost (inode_of (S.shape store.old) x dir)) }
 {
     match Dir::list(alloc, store, dir) {
         Ok(listed) => Ok(Reply::List(Lines::new(sorted_lines(alloc, listed)?))),
@@ -62,8 +63,18 @@ fn sorted_lines(alloc: Global, listed: Vec<Listed>) -> Result<Vec<ListLine>, All
     ensures { IfOk result (λ lines. AreLinesOf (map entry_of listed.items) (map line_of lines.items)) }
 {
     let mut sorted = listed;
+    // Numbers are sorted fastest. The second sort finds all in place whose first bytes differ.
+    sorted.sort_by_cached_key(|entry| front_of(entry.name.bytes()))?;
     sorted.sort_by(|entry, other| entry.name.bytes().cmp(other.name.bytes()))?;
     lines_of(alloc, sorted)
+}
+
+/// The first bytes of a name as a number, zeros behind a name that has fewer.
+fn front_of(name: &[u8]) -> u64 {
+    let mut bytes = [0; 8];
+    let len = name.len().min(8);
+    bytes[..len].copy_from_slice(&name[..len]);
+    u64::from_be_bytes(bytes)
 }
 
 /// A line for each entry, in their order.

@@ -3,6 +3,7 @@ ghost use Rattle.xn_bytes.specs.Replies.{line_text, reply_text, Plain, EntryOf, 
 ghost use Rattle.xn_text.specs.Viewed.{line_of, lines_of, reply_of};
 
 use crate::{Lines, ListLine};
+use itoa::Buffer;
 use std::alloc::Global;
 use xn_bytes::{Errno, Kind, Memory, escape};
 
@@ -77,27 +78,28 @@ fn write_list(alloc: Global, lines: &[ListLine], out: &mut Vec<u8>) -> Result<()
     let count = lines.len();
     let front = format!(in alloc; "ok {count}\n")?;
     out.extend_from_slice(front.as_bytes())?;
-    write_lines(alloc, lines, out)
+    write_lines(lines, out)
 }
 
-fn write_lines(alloc: Global, lines: &[ListLine], out: &mut Vec<u8>) -> Result<(), Memory>
+fn write_lines(lines: &[ListLine], out: &mut Vec<u8>) -> Result<(), Memory>
     ensures ok { OnOk result (out.new.items ≡ out.old.items ++ flat_map line_text (lines_of lines.now)) }
     ensures err { OnErr result (take (length out.old.items) out.new.items ≡ out.old.items) }
 {
     for line in lines {
-        write_line(alloc, line, out)?;
+        write_line(line, out)?;
     }
     Ok(())
 }
 
-fn write_line(alloc: Global, line: &ListLine, out: &mut Vec<u8>) -> Result<(), Memory>
+fn write_line(line: &ListLine, out: &mut Vec<u8>) -> Result<(), Memory>
     ensures ok { OnOk result (out.new.items ≡ out.old.items ++ line_text (line_of line.now)) }
     ensures err { OnErr result (take (length out.old.items) out.new.items ≡ out.old.items) }
 {
-    let ino = line.ino;
-    let kind = line.kind.word();
-    let front = format!(in alloc; "{ino} {kind} ")?;
-    out.extend_from_slice(front.as_bytes())?;
+    let mut digits = Buffer::new();
+    out.extend_from_slice(digits.format(line.ino).as_bytes())?;
+    out.push(b' ')?;
+    out.extend_from_slice(line.kind.word().as_bytes())?;
+    out.push(b' ')?;
     escape(line.name.bytes(), out)?;
     out.push(b'\n')?;
     Ok(())

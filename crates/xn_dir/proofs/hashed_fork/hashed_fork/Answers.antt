@@ -1,4 +1,4 @@
-use Rattle.xn_dir.proofs.OverImages.{mapped_home}
+use Rattle.xn_inode.proofs.HomeLists.{mapped_home}
 use Rattle.xn_dir.proofs.hashed_fork.hashed_fork.Goals as goal
 
 pub returns-clause-blocks : goal.returns-clause-blocks

@@ -6,7 +6,6 @@ use Rattle.xn_bytes.specs.Hashes.{name_hash_of}
 use Rattle.xn_bytes.specs.DataBlock.{LeafEntry}
 use Rattle.xn_bytes.specs.DirectoryRules.{FailsHashed}
 use Rattle.xn_dir.specs.Hashed.{BreaksAtLeaf, dir_fork}
-use Rattle.xn_dir.proofs.OverImages.{OnOk_all}
 use Rattle.xn_dir.proofs.HashedFaults.{fault_over}
 use Rattle.xn_dir.proofs.LookingUp.{found_over, fails_at_leaf}
 use Rattle.xn_dir.proofs.hashed_form.lookup.Goals as goal
@@ -30,6 +29,11 @@ returns-clause-fault g c =
     (IfSome_then (S.image store) leaves.found (λ x those rule block breaks. fails_at_leaf (T x) c.name_hash.result c.in_ok-leaves.leaves.items breaks.0 rule block those breaks.1 breaks.2)) is)
     (rw (leaves.stays.shape_stays, c.deref.ensures.value) at c.find_among.ensures.fault)
 
+pub returns-in_err-leaves-clause-fetches : goal.returns-in_err-leaves-clause-fetches
+returns-in_err-leaves-clause-fetches g c =
+    let hash = c.name_hash.ensures ∙ ap name_hash_of c.bytes.ensures.value in
+    rw hash at c.in_err-leaves.ensures.failed
+
 pub returns-clause-fetches : goal.returns-clause-fetches
 returns-clause-fetches g c =
     let store = c.args.store.now in
@@ -37,4 +41,9 @@ returns-clause-fetches g c =
     let leaves = c.in_ok-leaves.ensures in
     let hash = c.name_hash.ensures ∙ ap name_hash_of c.bytes.ensures.value in
     let long = ap length c.deref.ensures.value in
-    OnOk_all c.find_among.result _ (IfSome_then (S.image store) (rw hash at leaves.fetches) (λ x few cost is. let read = few cost is in omega (arith, read, c.find_among.ensures.fetches, long)))
+    IfSome_then (S.image store) (rw hash at leaves.fetches) (λ x few cost is. let read = few cost is in omega (arith, read, c.find_among.ensures.fetches, long))
+
+pub returns-clause-most : goal.returns-clause-most
+returns-clause-most g c =
+    let leaves = c.in_ok-leaves.ensures in
+    omega (arith, leaves.most, leaves.few, c.find_among.ensures.fetches, ap length c.deref.ensures.value)

@@ -1,6 +1,5 @@
 use Rattle.std.proofs.lemmas.Option.{IfSome_then}
 use Rattle.xn_dir.specs.Hashed.{dir_fork}
-use Rattle.xn_dir.proofs.Following.{every}
 use Rattle.xn_dir.proofs.IndexOver.{breaks_19, leaves_of_leaf, leaf_breaks_20, leaf_index, no_true}
 use Rattle.xn_dir.proofs.BlockReads.{leaf_reads}
 use Rattle.xn_dir.proofs.hashed_list.check_leaf_form.Goals as goal
@@ -32,5 +31,17 @@ returns-clause-right g c =
     (λ x read first others. leaf_index (S.shape store) c.args.fork.now x c.in_ok-leaf.leaf first others c.args.leaves.items c.args.bests.now c.last_mapped.result c.are_leaf_bests-are_right.result c.requires.leaf_form read c.last_mapped.ensures
     (rw c.deref.ensures.value at last) (c.in_ok-are_same.ensures.0 c.if-not-branch.false) c.if-not-are_right.false)
 
+pub returns-in_err-leaf-clause-fetches : goal.returns-in_err-leaf-clause-fetches
+returns-in_err-leaf-clause-fetches g c = leaf_reads c.args.fork.now.extents (g.S.Store.fetches c.args.store.now) (g.S.Store.fetches c.read_single_leaf.new.store) c.requires.leaf_form.leaf c.in_err-leaf.ensures.fetches
+
+pub returns-in_err-are_same-clause-fetches : goal.returns-in_err-are_same-clause-fetches
+returns-in_err-are_same-clause-fetches g c = leaf_reads c.args.fork.now.extents (g.S.Store.fetches c.args.store.now) (g.S.Store.fetches c.read_single_leaf.new.store) c.requires.leaf_form.leaf c.in_ok-leaf.ensures.fetches
+
+pub returns-then-not-branch-clause-fetches : goal.returns-then-not-branch-clause-fetches
+returns-then-not-branch-clause-fetches g c = leaf_reads c.args.fork.now.extents (g.S.Store.fetches c.args.store.now) (g.S.Store.fetches c.read_single_leaf.new.store) c.requires.leaf_form.leaf c.in_ok-leaf.ensures.fetches
+
+pub returns-then-not-are_right-clause-fetches : goal.returns-then-not-are_right-clause-fetches
+returns-then-not-are_right-clause-fetches g c = leaf_reads c.args.fork.now.extents (g.S.Store.fetches c.args.store.now) (g.S.Store.fetches c.read_single_leaf.new.store) c.requires.leaf_form.leaf c.in_ok-leaf.ensures.fetches
+
 pub returns-clause-fetches : goal.returns-clause-fetches
-returns-clause-fetches g c = every (g.S.Store.image c.args.store.now) _ (λ x. leaf_reads c.args.fork.now.extents (g.S.Store.fetches c.args.store.now) (g.S.Store.fetches c.read_single_leaf.new.store) c.requires.leaf_form.leaf c.in_ok-leaf.ensures.fetches)
+returns-clause-fetches g c = leaf_reads c.args.fork.now.extents (g.S.Store.fetches c.args.store.now) (g.S.Store.fetches c.read_single_leaf.new.store) c.requires.leaf_form.leaf c.in_ok-leaf.ensures.fetches

@@ -1,12 +1,8 @@
-use Rattle.std.proofs.Common.{subst}
-use Rattle.xn_bytes.specs.DataBlock.{LeafEntry}
-use Rattle.xn_bytes.specs.Trees.{IsTree, Tree}
-use Rattle.xn_dir.proofs.LeafEntries.{tree_is}
 use Rattle.std.proofs.lemmas.Option.{IfSome_then}
 use Rattle.xn_dir.specs.Hashed.{dir_fork}
 use Rattle.xn_dir.proofs.Following.{IfSome_both}
 use Rattle.xn_dir.proofs.IndexOver.{breaks_19, leaves_of_tree, node_breaks_20, node_index, no_true}
-use Rattle.xn_dir.proofs.BlockReads.{node_reads}
+use Rattle.xn_dir.proofs.BlockReads.{node_reads, tree_reads}
 use Rattle.xn_dir.proofs.hashed_list.check_node_form.Goals as goal
 
 pub returns-then-not-branch-clause-fault : goal.returns-then-not-branch-clause-fault
@@ -40,10 +36,20 @@ returns-clause-right g c =
     (leaves_of_tree (S.shape store) c.args.fork.now x c.in_ok-live.live.items c.requires.fork c.requires.node_form tree)
     (c.in_ok-are_same.ensures.0 c.if-not-branch.false) tells c.if-not-branch-2.false)
 
+pub returns-in_err-live-clause-fetches : goal.returns-in_err-live-clause-fetches
+returns-in_err-live-clause-fetches g c = tree_reads c.args.fork.now (g.S.Store.fetches c.args.store.now) (g.S.Store.fetches c.walk.new.store) c.requires.fork c.in_err-live.ensures.once
+
+pub returns-in_err-are_same-clause-fetches : goal.returns-in_err-are_same-clause-fetches
+returns-in_err-are_same-clause-fetches g c = tree_reads c.args.fork.now (g.S.Store.fetches c.args.store.now) (g.S.Store.fetches c.walk.new.store) c.requires.fork c.in_ok-live.ensures.once
+
+pub returns-then-not-branch-clause-fetches : goal.returns-then-not-branch-clause-fetches
+returns-then-not-branch-clause-fetches g c = tree_reads c.args.fork.now (g.S.Store.fetches c.args.store.now) (g.S.Store.fetches c.walk.new.store) c.requires.fork c.in_ok-live.ensures.once
+
+pub returns-in_err-has_free_indexes-clause-fetches : goal.returns-in_err-has_free_indexes-clause-fetches
+returns-in_err-has_free_indexes-clause-fetches g c = node_reads c.args.fork.now (g.S.Store.fetches c.args.store.now) (g.S.Store.fetches c.walk.new.store) (g.S.Store.fetches c.has_free_indexes.new.store) c.requires.fork c.in_ok-live.ensures.once c.in_err-has_free_indexes.ensures.fetches
+
+pub returns-then-not-branch-2-clause-fetches : goal.returns-then-not-branch-2-clause-fetches
+returns-then-not-branch-2-clause-fetches g c = node_reads c.args.fork.now (g.S.Store.fetches c.args.store.now) (g.S.Store.fetches c.walk.new.store) (g.S.Store.fetches c.has_free_indexes.new.store) c.requires.fork c.in_ok-live.ensures.once c.in_ok-has_free_indexes.ensures.fetches
+
 pub returns-clause-fetches : goal.returns-clause-fetches
-returns-clause-fetches g c =
-    let store = c.args.store.now in
-    let S = g.S.Store in
-    let T = dir_fork (S.shape store) c.args.fork.now in
-    IfSome_then (S.image store) c.in_ok-live.ensures.fetches
-    (λ x walked. node_reads (T x) walked.0 (S.fetches store) (S.fetches c.walk.new.store) (S.fetches c.has_free_indexes.new.store) (subst (λ (one : Tree LeafEntry). IsTree one walked.0) (tree_is (S.shape store) c.args.fork.now x c.requires.fork) walked.1) walked.2 c.in_ok-has_free_indexes.ensures.fetches)
+returns-clause-fetches g c = node_reads c.args.fork.now (g.S.Store.fetches c.args.store.now) (g.S.Store.fetches c.walk.new.store) (g.S.Store.fetches c.has_free_indexes.new.store) c.requires.fork c.in_ok-live.ensures.once c.in_ok-has_free_indexes.ensures.fetches

@@ -1,12 +1,11 @@
 use Rattle.std.proofs.Common.{map, refl}
 use Rattle.std.proofs.lemmas.Result.{err_from_is_err_and}
-use Rattle.std.proofs.lemmas.Option.{IfSome_then}
 use Rattle.xn_bytes.specs.DirectoryRules.{BreaksHashed}
 use Rattle.xn_dir.specs.Hashed.{dir_fork}
 use Rattle.xn_dir.specs.Listings.{entry_of}
 use Rattle.xn_dir.specs.Indexed.{BreaksIndex}
 use Rattle.xn_dir.proofs.Collecting.{have_names}
-use Rattle.xn_dir.proofs.BlockReads.{list_reads}
+use Rattle.xn_dir.proofs.BlockReads.{data_reads, list_reads}
 use Rattle.xn_dir.proofs.HashedFaults.{fault_over}
 use Rattle.xn_dir.proofs.ListOver.{ForGathered, index_breaks, names_break, list_holds}
 use Rattle.xn_dir.proofs.hashed_list.list.Goals as goal
@@ -47,12 +46,14 @@ returns-clause-names g c =
     let gathered = c.in_ok-listed.field-0 in
     have_names (map entry_of gathered.listed.items) gathered.listed.items (refl, c.in_ok-listed.ensures.names c.in_ok-check_names.ensures.0) (rw c.deref-2.ensures.value at c.in_ok-check_names.ensures.1)
 
+pub returns-in_err-listed-clause-fetches : goal.returns-in_err-listed-clause-fetches
+returns-in_err-listed-clause-fetches g c = data_reads c.args.fork.now.extents (g.S.Store.fetches c.args.store.now) (g.S.Store.fetches c.gather.new.store) c.in_err-listed.ensures.fetches
+
+pub returns-in_err-check_index-clause-fetches : goal.returns-in_err-check_index-clause-fetches
+returns-in_err-check_index-clause-fetches g c = list_reads c.args.fork.now.extents (g.S.Store.fetches c.args.store.now) (g.S.Store.fetches c.gather.new.store) (g.S.Store.fetches c.check_index.new.store) c.in_ok-listed.ensures.fetches c.in_err-check_index.ensures.fetches
+
+pub returns-in_err-check_names-clause-fetches : goal.returns-in_err-check_names-clause-fetches
+returns-in_err-check_names-clause-fetches g c = list_reads c.args.fork.now.extents (g.S.Store.fetches c.args.store.now) (g.S.Store.fetches c.gather.new.store) (g.S.Store.fetches c.check_index.new.store) c.in_ok-listed.ensures.fetches c.in_ok-check_index.ensures.fetches
+
 pub returns-clause-fetches : goal.returns-clause-fetches
-returns-clause-fetches g c =
-    let store = c.args.store.now in
-    let S = g.S.Store in
-    let T = dir_fork (S.shape store) c.args.fork.now in
-    let gathered = c.in_ok-listed.field-0 in
-    let read = c.in_ok-listed.ensures in
-    IfSome_then (S.image store) (rw read.stays.image_stays at c.in_ok-check_index.ensures.fetches)
-    (λ x index. list_reads c.args.fork.now.extents (S.fetches store) (S.fetches c.gather.new.store) (S.fetches c.check_index.new.store) read.fetches index)
+returns-clause-fetches g c = list_reads c.args.fork.now.extents (g.S.Store.fetches c.args.store.now) (g.S.Store.fetches c.gather.new.store) (g.S.Store.fetches c.check_index.new.store) c.in_ok-listed.ensures.fetches c.in_ok-check_index.ensures.fetches

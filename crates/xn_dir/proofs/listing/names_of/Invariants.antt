@@ -1,6 +1,7 @@
-use Rattle.std.proofs.Common.{◌≡◌, map, take}
+use Rattle.std.proofs.Common.{◌≡◌, ◌∷◌, map, take}
+use Rattle.xn_bytes.specs.Hashes.{name_hash_of}
 use Rattle.xn_dir.specs.Listings.{name_of}
 use Rattle.xn_dir.proofs.listing.names_of.Given as goal
 
 abbrev pub invariant-loop-entry : goal.invariant-loop-entry
-invariant-loop-entry l = map (λ name. name.now) l.names.items ≡ map name_of (take l.entry-index l.listed)
+invariant-loop-entry l = map (λ name. name.hash ∷ name.name.now) l.names.items ≡ map (λ entry. name_hash_of (name_of entry) ∷ name_of entry) (take l.entry-index l.listed)

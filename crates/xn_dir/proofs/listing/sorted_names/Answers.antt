@@ -1,18 +1,19 @@
-use Rattle.std.proofs.Common.{rules, List, ℕ, map, subst, Bor}
+use Rattle.std.proofs.Common.{rules, List, ℕ, map, subst}
 use Rattle.std.specs.Prelude.{IsPermutation}
 use Rattle.std.specs.Ordering.{nat_cmp, is_lt}
-use Rattle.std.specs.Cmp.Lexicographic.{slice_cmp}
-use Rattle.std.proofs.lemmas.List.Sorted.{answers_always, IsPermutation-map}
+use Rattle.std.specs.Cmp.Lexicographic.{slice_cmp, nat_list_cmp_total}
+use Rattle.std.proofs.lemmas.List.Sorted.{answers_always, ranks_by, IsPermutation-map, IsPermutation-trans}
 use Rattle.xn_dir.proofs.Names.{sorted_map}
+use Rattle.xn_dir.proofs.HashedNames.{in_one}
 use Rattle.xn_dir.proofs.listing.sorted_names.Goals as goal
 
 pub returns-clause-same : goal.returns-clause-same
 returns-clause-same c =
-    let now : Bor (List ℕ) → List ℕ = λ name. name.now in
-    subst (λ (names : List (List ℕ)). IsPermutation names (map now c.sort_by_key.new.self.items)) c.in_ok-names.ensures
-    (IsPermutation-map now c.in_ok-names.names.items c.sort_by_key.new.self.items c.in_ok-sort_by_key.ensures.permutation)
+    subst (λ (names : List (List ℕ)). IsPermutation names (map in_one c.sort_by.new.self.items)) c.in_ok-names.ensures
+    (IsPermutation-map in_one c.in_ok-names.names.items c.sort_by.new.self.items
+    (IsPermutation-trans c.in_ok-names.names.items c.sort_by_cached_key.new.self.items c.sort_by.new.self.items c.in_ok-sort_by_cached_key.ensures.permutation c.in_ok-sort_by.ensures.permutation))
 
 pub returns-clause-sorted : goal.returns-clause-sorted
 returns-clause-sorted c =
-    let now : Bor (List ℕ) → List ℕ = λ name. name.now in
-    sorted_map now (λ a b. is_lt (slice_cmp nat_cmp a b)) c.sort_by_key.new.self.items (c.in_ok-sort_by_key.ensures.sorted (λ name. name) (answers_always _ _ _ (λ f a r t k. search rules)))
+    sorted_map in_one (λ a b. is_lt (slice_cmp nat_cmp a b)) c.sort_by.new.self.items
+    (c.in_ok-sort_by.ensures.sorted (λ a b. is_lt (slice_cmp nat_cmp (in_one a) (in_one b))) (ranks_by nat_list_cmp_total in_one) (answers_always _ _ _ (λ f a r t k. search rules)))

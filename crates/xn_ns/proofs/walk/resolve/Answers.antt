@@ -26,7 +26,16 @@ returns-in-Refused-clause-fetches g c =
     let loop = c.loop-part.invariant in
     let more = rw (loop.stays.shape_stays, loop.stays.image_stays) at c.in_ok-place.ensures.fetches in
     within_path (g.S.Store.shape c.args.store.now) (g.S.Store.image c.args.store.now) c.args.path.now c.in-Some.behind.now _ (g.S.Store.fetches c.take_part.new.store)
-    (fetched (g.S.Store.shape c.args.store.now) (g.S.Store.image c.args.store.now) c.args.path.now c.loop-part.rest.now c.in-Some.part.now c.in-Some.behind.now _ (g.S.Store.fetches c.loop-part.store) (g.S.Store.fetches c.take_part.new.store) c.in-Some.ensures.parts more loop.fetches)
+    (fetched (g.S.Store.shape c.args.store.now) (g.S.Store.image c.args.store.now) c.args.path.now (place_of c.loop-part.here) c.loop-part.rest.now c.in-Some.part.now c.in-Some.behind.now _ (g.S.Store.fetches c.loop-part.store) (g.S.Store.fetches c.take_part.new.store)
+    loop.leads c.in-Some.ensures.parts more loop.fetches)
+
+pub returns-in_err-place-clause-fetches : goal.returns-in_err-place-clause-fetches
+returns-in_err-place-clause-fetches g c =
+    let loop = c.loop-part.invariant in
+    let more = rw (loop.stays.shape_stays, loop.stays.image_stays) at c.in_err-place.ensures.fetches in
+    within_path (g.S.Store.shape c.args.store.now) (g.S.Store.image c.args.store.now) c.args.path.now c.in-Some.behind.now _ (g.S.Store.fetches c.take_part.new.store)
+    (fetched (g.S.Store.shape c.args.store.now) (g.S.Store.image c.args.store.now) c.args.path.now (place_of c.loop-part.here) c.loop-part.rest.now c.in-Some.part.now c.in-Some.behind.now _ (g.S.Store.fetches c.loop-part.store) (g.S.Store.fetches c.take_part.new.store)
+    loop.leads c.in-Some.ensures.parts more loop.fetches)
 
 pub loop-part-preserved : goal.loop-part-preserved
 loop-part-preserved g c =
@@ -35,7 +44,8 @@ loop-part-preserved g c =
     let more = rw (loop.stays.shape_stays, loop.stays.image_stays) at c.in_ok-place.ensures.fetches in
     record {
       stays = stays_on g.S.Store g.met.S.Store.only_read_on _ _ _ loop.stays c.in_ok-place.ensures.stays;
-      fetches = fetched (g.S.Store.shape c.args.store.now) (g.S.Store.image c.args.store.now) c.args.path.now c.loop-part.rest.now c.in-Some.part.now c.in-Some.behind.now _ (g.S.Store.fetches c.loop-part.store) (g.S.Store.fetches c.take_part.new.store) c.in-Some.ensures.parts more loop.fetches;
+      fetches = fetched (g.S.Store.shape c.args.store.now) (g.S.Store.image c.args.store.now) c.args.path.now (place_of c.loop-part.here) c.loop-part.rest.now c.in-Some.part.now c.in-Some.behind.now _ (g.S.Store.fetches c.loop-part.store) (g.S.Store.fetches c.take_part.new.store)
+          loop.leads c.in-Some.ensures.parts more loop.fetches;
       leads = goes_on (g.S.Store.shape c.args.store.now) (g.S.Store.image c.args.store.now) c.args.path.now (place_of c.loop-part.here) c.loop-part.rest.now c.in-Some.part.now c.in-Some.behind.now _ _ c.in-Goes.place
           loop.leads c.in-Some.ensures.parts taken;
     }

@@ -1,5 +1,4 @@
 use Rattle.std.proofs.Common.{rules}
-use Rattle.std.proofs.lemmas.Result.{IfOk-weaker}
 use Rattle.xn_ns.proofs.Fetches.{looked_before}
 use Rattle.xn_ns.proofs.PartsTaken.{directory_seen, taken_from}
 use Rattle.xn_ns.specs.Steps.{place_of}
@@ -15,8 +14,7 @@ returns-in-Detached-clause-taken g c =
 pub returns-in-Detached-clause-fetches : goal.returns-in-Detached-clause-fetches
 returns-in-Detached-clause-fetches g c =
     let stays = c.in_ok-look_at.ensures.stays in
-    let one = c.in_ok-look_at.ensures.fetches in
+    let directory = directory_seen (g.S.Store.shape c.args.store.now) (g.S.Store.image c.args.store.now) c.args.here.ino c.in_ok-look_at.field-0 c.in_ok-look_at.ensures.seen c.in-Detached.is in
     let more = rw (stays.shape_stays, stays.image_stays) at c.take_part_in.ensures.fetches in
-    IfOk-weaker c.take_part_in.result _ _
-    (λ step fetched. looked_before (g.S.Store.shape c.args.store.now) (g.S.Store.image c.args.store.now) (g.S.Store.fetches c.args.store.now) (g.S.Store.fetches c.look_at.new.store) (g.S.Store.fetches c.take_part_in.new.store) one fetched)
-    more
+    looked_before (g.S.Store.shape c.args.store.now) (g.S.Store.image c.args.store.now) (place_of c.args.here) c.args.part.now (g.S.Store.fetches c.args.store.now) (g.S.Store.fetches c.look_at.new.store) (g.S.Store.fetches c.take_part_in.new.store)
+    (search rules) directory c.in_ok-look_at.ensures.fetches more

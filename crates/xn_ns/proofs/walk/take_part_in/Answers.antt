@@ -21,13 +21,20 @@ returns-in-Ok-None-clause-taken g c =
 
 pub returns-in-Ok-Some-clause-fetches : goal.returns-in-Ok-Some-clause-fetches
 returns-in-Ok-Some-clause-fetches g c =
-    looked_up (g.S.Store.shape c.args.store.now) (g.S.Store.image c.args.store.now) c.args.dir (name_hash_of _) (g.S.Store.fetches c.args.store.now) (g.S.Store.fetches c.lookup.new.store) c.requires.directory c.in-Ok-Some.ensures.fetches
+    looked_up (g.S.Store.shape c.args.store.now) (g.S.Store.image c.args.store.now) c.args.dir (name_hash_of c.args.part.now) (g.S.Store.fetches c.args.store.now) (g.S.Store.fetches c.lookup.new.store)
+    (rw c.in-Ok.ensures.0 at c.in-Ok-Some.ensures.fetches) c.in-Ok-Some.ensures.most
 
 pub returns-in-Ok-None-clause-fetches : goal.returns-in-Ok-None-clause-fetches
 returns-in-Ok-None-clause-fetches g c =
-    looked_up (g.S.Store.shape c.args.store.now) (g.S.Store.image c.args.store.now) c.args.dir (name_hash_of _) (g.S.Store.fetches c.args.store.now) (g.S.Store.fetches c.lookup.new.store) c.requires.directory c.in-Ok-None.ensures.fetches
+    looked_up (g.S.Store.shape c.args.store.now) (g.S.Store.image c.args.store.now) c.args.dir (name_hash_of c.args.part.now) (g.S.Store.fetches c.args.store.now) (g.S.Store.fetches c.lookup.new.store)
+    (rw c.in-Ok.ensures.0 at c.in-Ok-None.ensures.fetches) c.in-Ok-None.ensures.most
 
 pub returns-clause-taken : goal.returns-clause-taken
 returns-clause-taken g c =
     rw c.of_directory.ensures
     (look_up_fails (g.S.Store.shape c.args.store.now) (g.S.Store.image c.args.store.now) c.args.dir c.args.part.now _ _ c.in-Err-lookup.fault c.in-Ok.ensures.1 c.in-Err-lookup.ensures.fault)
+
+pub returns-clause-fetches : goal.returns-clause-fetches
+returns-clause-fetches g c =
+    looked_up (g.S.Store.shape c.args.store.now) (g.S.Store.image c.args.store.now) c.args.dir (name_hash_of c.args.part.now) (g.S.Store.fetches c.args.store.now) (g.S.Store.fetches c.lookup.new.store)
+    (rw c.in-Ok.ensures.0 at c.in-Err-lookup.ensures.fetches) c.in-Err-lookup.ensures.most
