@@ -2,6 +2,7 @@
 
 mod directories;
 mod edge;
+mod forks;
 mod lists;
 mod outside;
 mod paths;
@@ -33,6 +34,8 @@ enum Asked {
     Program,
     /// The root directory, as a call of `Dir`.
     Root,
+    /// The tree of the root, as a call of `Tree`.
+    Tree,
 }
 
 /// Compares each row of a table with what is answered, and names the first that differs or is no row.
@@ -59,7 +62,8 @@ fn answers(alloc: Global, asked: Asked, line: &str) -> Result<Option<(Answer, An
     };
     let answer = match asked {
         Asked::Program => run(alloc, &row)?,
-        Asked::Root => directories::ask_root(alloc, &row)?,
+        Asked::Root => directories::ask_root(alloc, &row, directories::CALLS)?,
+        Asked::Tree => directories::ask_root(alloc, &row, CALLS)?,
     };
     Ok(Some((answer, wanted)))
 }

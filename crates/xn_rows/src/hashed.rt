@@ -1,7 +1,8 @@
 //! Leaves and nodes of a root in leaf or node form, laid out.
 
 use crate::RowFault;
-use crate::fork::{Fork, LEAVES, TREE};
+use crate::filled::fill_leaf;
+use crate::fork::{Fork, Start, TREE};
 use crate::pieces::{BLOCK, Piece};
 use std::alloc::Global;
 use xn_bytes::{put_u16, put_u64};
@@ -30,11 +31,13 @@ pub fn put_single_leaf(
     Piece::hashed(block).put(image, place, &tail)
 }
 
-/// Puts the tree of node form, with at most so many leaf entries in a leaf. One leaf is a tree by itself.
+/// Puts the tree of node form, with at most so many leaf entries in a leaf, and leaves from a start on. One leaf is a tree by
+/// itself.
 pub fn put_tree(
     alloc: Global,
     image: &mut [u8],
     fork: &mut Fork,
+    start: Start,
     leaves: &[Leaf],
     most: u16,
 ) -> Result<(), RowFault> {
@@ -42,8 +45,8 @@ pub fn put_tree(
     if leaves.len() <= usize::from(most) {
         return put_leaf(alloc, image, root, LEAF, leaves);
     }
-    let children = put_leaves(alloc, image, fork, leaves, most)?;
-    link(image, &children)?;
+    let children = put_leaves(alloc, image, fork, start, leaves, most)?;
+    link(image, start, &children)?;
     let header = header(root, NODE, children.len().try_into()?, 1);
     put_hashed(alloc, image, root, &header, &children)
 }
@@ -54,36 +57,35 @@ fn put_leaves(
     alloc: Global,
     image: &mut [u8],
     fork: &mut Fork,
+    start: Start,
     leaves: &[Leaf],
     most: u16,
 ) -> Result<Vec<Leaf>, RowFault> {
     let mut children = Vec::new(alloc);
     for (number, leaves) in leaves.chunks(usize::from(most.max(1))).enumerate() {
         let number = u16::try_from(number)?;
-        let block = fork.map(LEAVES, number)?;
+        let block = fork.map(start, number)?;
         put_leaf(alloc, image, block, LEAF, leaves)?;
         let last = leaves.last().ok_or(RowFault::Number)?;
         children.push(Leaf {
             hash: last.hash,
-            address: LEAVES.file_block(number),
+            address: start.file_block(number),
         })?;
     }
     Ok(children)
 }
 
 /// Makes siblings of the leaves that a node's entries name.
-fn link(image: &mut [u8], children: &[Leaf]) -> Result<(), RowFault> {
+fn link(image: &mut [u8], start: Start, children: &[Leaf]) -> Result<(), RowFault> {
     for (left, right) in children.iter().zip(children.iter().skip(1)) {
-        let (from, to) = (
-            LEAVES.block_of(left.address),
-            LEAVES.block_of(right.address),
-        );
+        let (from, to) = (start.block_of(left.address), start.block_of(right.address));
         Piece::hashed(from).put(image, 0, &right.address.to_be_bytes())?;
         Piece::hashed(to).put(image, 4, &left.address.to_be_bytes())?;
     }
     Ok(())
 }
 
+/// Puts a leaf. One of a tree without stale entries is laid out by the call that lays out leaves for changes.
 fn put_leaf(
     alloc: Global,
     image: &mut [u8],
@@ -93,7 +95,12 @@ fn put_leaf(
 ) -> Result<(), RowFault> {
     let stale = leaves.iter().filter(|leaf| leaf.address == 0).count();
     let header = header(block, magic, leaves.len().try_into()?, stale.try_into()?);
-    put_hashed(alloc, image, block, &header, leaves)
+    if magic == LEAF && stale == 0 {
+        let bytes = fill_leaf(alloc, &header, leaves)?;
+        Piece::hashed(block).put(image, 0, &bytes)
+    } else {
+        put_hashed(alloc, image, block, &header, leaves)
+    }
 }
 
 /// Puts a leaf or a node: its header, and its entries.

@@ -3,6 +3,7 @@
 ghost use Rattle.std.specs.Prelude.{◌≡◌, ◌+◌, ◌*◌, ◌%◌, ◌≤◌, length, IfOk};
 
 use crate::RowFault;
+use crate::full::put_full;
 use crate::pieces::{Piece, SECTOR, put, put_file};
 use crate::spelling::bytes;
 use crate::trees::{put_leaf_form, put_node_form};
@@ -102,6 +103,7 @@ fn made_image(alloc: Global, word: &str) -> Result<Vec<u8>, RowFault> {
         }
         "leaf" => image_in_leaf_form(alloc, spelled),
         "node" => image_in_node_form(alloc, spelled),
+        "full" => image_of_full_blocks(alloc, spelled),
         _ => Err(RowFault::Word),
     }
 }
@@ -128,6 +130,13 @@ fn image_in_leaf_form(alloc: Global, names: &str) -> Result<Vec<u8>, RowFault> {
 fn image_in_node_form(alloc: Global, spelled: &str) -> Result<Vec<u8>, RowFault> {
     let mut image = xn_make::image(alloc, &[])?;
     put_node_form(alloc, &mut image, spelled)?;
+    Ok(image)
+}
+
+/// The image whose root has so many full data blocks.
+fn image_of_full_blocks(alloc: Global, blocks: &str) -> Result<Vec<u8>, RowFault> {
+    let mut image = xn_make::image(alloc, &[])?;
+    put_full(alloc, &mut image, blocks)?;
     Ok(image)
 }
 

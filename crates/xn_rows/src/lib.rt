@@ -21,6 +21,7 @@
 //! | `short:BYTES` | the root is in short form, with these bytes in its data fork |
 //! | `leaf:NAMES` | the root is in leaf form, and has these names |
 //! | `node:COUNT:NAMES` | the root is in node form, with at most so many leaf entries in a leaf |
+//! | `full:BLOCKS` | the root is in node form, with so many data blocks of 14 names of 255 bytes each |
 //! | `tree`, `demo` | directories in short form, as [`images`] spells them |
 //! | `leaf`, `single`, `node`, `deep` | roots in leaf and in node form, as [`images`] spells them |
 //!
@@ -29,7 +30,9 @@
 //! `/`; one without names isn't mapped. A name behind `-` was taken away: its place is free, and its leaf entry stale; a name
 //! that is there stands behind it. Data
 //! blocks are the blocks from 40 on, the single leaf or the root of the tree is block 48, the leaves below that are the blocks
-//! from 49 on, and the free-index block is block 56. Each has an extent of its own, in this order. The changes, in order:
+//! from 49 on, and the free-index blocks are those from 56 on. Each has an extent of its own, in this order. (Of full data
+//! blocks those from 576 on have one extent, and the leaves from block 2,976 on another; their names are `00000` and 250 times
+//! `x`, and so on, and stand for the file 131.) The changes, in order:
 //!
 //! | Word | Change |
 //! |---|---|
@@ -50,7 +53,9 @@
 
 mod area;
 mod fault;
+mod filled;
 mod fork;
+mod full;
 mod hashed;
 mod images;
 mod pieces;
@@ -63,6 +68,3 @@ pub use fault::RowFault;
 pub use images::image;
 pub use row::Row;
 pub use spelling::bytes;
-
-#[cfg(test)]
-mod tests;

@@ -4,7 +4,7 @@
 
 use crate::RowFault;
 use crate::area::Area;
-use crate::fork::{DATA, FREE, Fork};
+use crate::fork::{DATA, FREE, Fork, LEAVES};
 use crate::hashed::{bests_as_bytes, put_single_leaf, put_tree};
 use crate::pieces::{Piece, put_file};
 use crate::spelling::bytes;
@@ -17,6 +17,9 @@ const FIRST_FILE: u32 = 131;
 
 /// The best of a data block that isn't mapped.
 const NO_BEST: u16 = 0xffff;
+
+/// How many data blocks a free-index block has bests of.
+const BESTS: u16 = 2016;
 
 /// What is known of the data blocks that were laid out.
 #[derive(Debug, Drop)]
@@ -32,7 +35,7 @@ pub fn put_leaf_form(alloc: Global, image: &mut [u8], names: &str) -> Result<(),
     let mut fork = Fork::new(alloc);
     let index = put_data(alloc, image, &mut fork, names)?;
     put_single_leaf(alloc, image, &mut fork, &index.leaves, &index.bests)?;
-    fork.put_inode(image, index.bests.len().try_into()?)
+    fork.put_inode(alloc, image, index.bests.len().try_into()?)
 }
 
 /// Puts a root in node form, spelled as the number of leaf entries in a leaf, and its names.
@@ -40,9 +43,16 @@ pub fn put_node_form(alloc: Global, image: &mut [u8], spelled: &str) -> Result<(
     let (most, names) = spelled.split_once(':').ok_or(RowFault::Word)?;
     let mut fork = Fork::new(alloc);
     let index = put_data(alloc, image, &mut fork, names)?;
-    put_tree(alloc, image, &mut fork, &index.leaves, most.parse()?)?;
-    put_free_index(alloc, image, &mut fork, &index.bests)?;
-    fork.put_inode(image, index.bests.len().try_into()?)
+    put_tree(
+        alloc,
+        image,
+        &mut fork,
+        LEAVES,
+        &index.leaves,
+        most.parse()?,
+    )?;
+    put_free_indexes(alloc, image, &mut fork, &index.bests)?;
+    fork.put_inode(alloc, image, index.bests.len().try_into()?)
 }
 
 /// Puts the data blocks, and gives what is known of them, the leaf entries sorted.
@@ -114,23 +124,34 @@ fn put_files(image: &mut [u8], end: u32) -> Result<(), RowFault> {
     Ok(())
 }
 
-/// Puts the free-index block with these bests.
-fn put_free_index(
+/// Puts the free-index blocks with these bests, those of all data blocks from 0 on.
+pub fn put_free_indexes(
     alloc: Global,
     image: &mut [u8],
     fork: &mut Fork,
     bests: &[u16],
 ) -> Result<(), RowFault> {
-    let block = fork.map(FREE, 0)?;
+    for (index, bests) in bests.chunks(usize::from(BESTS)).enumerate() {
+        let index = u16::try_from(index)?;
+        let block = fork.map(FREE, index)?;
+        let piece = Piece::data(block);
+        let first = u32::from(BESTS) * u32::from(index);
+        piece.put(image, 0, &free_header(block, first, bests)?)?;
+        piece.put(image, 64, &bests_as_bytes(alloc, bests)?)?;
+    }
+    Ok(())
+}
+
+/// The header of a free-index block with the bests of the data blocks from this one on, but for its checksum.
+fn free_header(block: u32, first: u32, bests: &[u16]) -> Result<[u8; 64], RowFault> {
     let used = bests.iter().filter(|best| **best != NO_BEST).count();
     let mut header = [0; 64];
     header[..4].copy_from_slice(b"XDF3");
     put_u64(&mut header, 8, 8 * u64::from(block));
     header[24..40].copy_from_slice(&UUID);
     put_u64(&mut header, 40, ROOT);
+    put_u32(&mut header, 48, first);
     put_u32(&mut header, 52, bests.len().try_into()?);
     put_u32(&mut header, 56, used.try_into()?);
-    let piece = Piece::data(block);
-    piece.put(image, 0, &header)?;
-    piece.put(image, 64, &bests_as_bytes(alloc, bests)?)
+    Ok(header)
 }

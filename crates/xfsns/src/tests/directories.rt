@@ -7,7 +7,7 @@ ghost use Rattle.xn_inode.specs.Frames.{StoreStays};
 ghost use Rattle.xn_dir.specs.Inodes.{IsDirectory};
 ghost use Rattle.xn_replay.specs.Viewed.{IsSeen};
 
-use super::{Answer, Asked, check_rows};
+use super::{Answer, Asked, check_rows, forks};
 use std::alloc::Global;
 use std::test::Fail;
 use xn_bytes::{Kind, Name, escape, u16_at, unescape};
@@ -19,7 +19,7 @@ use xn_replay::{Seen, View};
 use xn_rows::Row;
 
 /// As many calls as the answers may take: one for the superblock, one for the inode's mode, and two for the answer.
-const CALLS: u64 = 4;
+pub(super) const CALLS: u64 = 4;
 
 /// Calls of `Dir` on the root, and what they give. `list` tells of each entry its position, inode, kind and name.
 const DIRECTORY_CALLS: &str = r"
@@ -112,7 +112,7 @@ fn call<S: Store>(alloc: Global, store: &mut S, words: &[String]) -> Result<Stri
             let found = Dir::lookup(alloc, store, ROOT, &name);
             Ok(format!(in alloc; "{found:?}\n")?)
         }
-        _ => Err(Fail::from("no such call")),
+        _ => forks::call(alloc, store, words),
     }
 }
 
@@ -134,10 +134,10 @@ fn listing(alloc: Global, entries: &[Listed]) -> Result<String, Fail> {
     Ok(String::from_utf8(text).ok().ok_or("names as text")?)
 }
 
-/// The same over a row's image.
-pub(super) fn ask_root(alloc: Global, row: &Row<'_>) -> Result<Answer, Fail> {
+/// The same over a row's image, of which so many calls of the machine succeed.
+pub(super) fn ask_root(alloc: Global, row: &Row<'_>, calls: u64) -> Result<Answer, Fail> {
     let image = row.image(alloc)?;
-    let mut machine = MemMachine::new(alloc, image, row.fails(alloc)?, None, CALLS, 0)?;
+    let mut machine = MemMachine::new(alloc, image, row.fails(alloc)?, None, calls, 0)?;
     let mut view = home_of(alloc, &mut machine)?;
     if !view.geometry().is_inode(ROOT) {
         return Err(Fail::from("the root is out of range"));

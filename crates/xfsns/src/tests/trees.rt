@@ -54,6 +54,13 @@ resolve IMAGE MANIFEST /Crang | node | 0 error 2 ENOENT
 resolve IMAGE MANIFEST /heron/x | node | 0 error 20 ENOTDIR
 resolve IMAGE MANIFEST /none/x | node | 0 error 2 ENOENT
 
+# 2,100 data blocks of 14 names, with two levels and two free-index blocks: the superblock, the inode twice, the root, a leaf
+# and a data block are read, and the seventh call tells the reply
+resolve IMAGE MANIFEST /29399{x*250} | full:2100 fails:8 | 0 ok 131 reg
+resolve IMAGE MANIFEST /29399{x*250} | full:2100 fails:7 | 6
+resolve IMAGE MANIFEST /00000{x*250} | full:2100 fails:8 | 0 ok 131 reg
+resolve IMAGE MANIFEST /29400{x*250} | full:2100 fails:7 | 0 error 2 ENOENT
+
 # four names of one hash, in one leaf and the next; in two leaves by themselves; and each in its own
 list IMAGE MANIFEST 128 | node:3:'RavenRaven','Ravenravel'/'ravelRaven','ravelravel' | 0 ok 4 / 131 reg RavenRaven / 132 reg Ravenravel / 133 reg ravelRaven / 134 reg ravelravel
 resolve IMAGE MANIFEST /RavenRaven | node:3:'RavenRaven','Ravenravel'/'ravelRaven','ravelravel' | 0 ok 131 reg
