@@ -58,7 +58,7 @@ prove() {
 
 add xn_demo
 add xfsns
-echo "${#crates[@]} crates are proved and built: about a quarter of an hour from nothing, else only what has changed" >&2
+echo "${#crates[@]} crates are proved and built: up to half an hour from nothing, else only what has changed" >&2
 for crate in "${crates[@]}"; do
     if [ -f "$top/crates/$crate/src/main.rt" ]; then prove run "$crate"; else prove lib "$crate"; fi
 done
