@@ -1,8 +1,12 @@
 ghost use Rattle.std.specs.Prelude.{◌≡◌, ◌≢◌, ◌↔◌, IsTrue, Some, is_none, MatchOption, MatchResult};
 ghost use Rattle.xn_bytes.specs.Names.{IsName, IsNameFault};
 
+use smallvec::SmallVec;
 use std::alloc::Global;
 use std::marker::Model;
+
+/// So many bytes a name keeps in itself; most names have no more.
+const INLINE: usize = 24;
 
 /// Why bytes are no name, in the order in which the causes are looked for.
 #[derive(Clone, Copy, Debug, PartialEq, Eq)]
@@ -22,7 +26,7 @@ pub enum NameFault {
 /// A name in a directory: 1 to 255 bytes without 0 and `/`, and neither `.` nor `..`. Contracts see its bytes.
 #[derive(Debug, Drop)]
 pub struct Name {
-    bytes: Vec<u8>,
+    bytes: SmallVec<u8, INLINE>,
 }
 
 impl Model for Name {
@@ -44,7 +48,7 @@ impl Name {
         if let Some(fault) = fault_of(bytes) {
             return Err(fault);
         }
-        match Vec::from_slice(alloc, bytes) {
+        match SmallVec::from_slice(alloc, bytes) {
             Ok(bytes) => Ok(Name { bytes }),
             Err(_) => Err(NameFault::Memory),
         }
