@@ -5,6 +5,7 @@ use Rattle.std.specs.List.Sorted.{IsNonDecreasingBy}
 use Rattle.xn_bytes.specs.declared.kind.Kind.TheVariants.{Dir}
 use Rattle.xn_bytes.specs.Numbers.{number_at}
 use Rattle.xn_bytes.specs.Hashes.{name_hash_of}
+use Rattle.xn_bytes.specs.Kinds.{kind_of_mode}
 use Rattle.xn_bytes.specs.Superblock.{Geometry, sector_of_block}
 use Rattle.xn_bytes.specs.Blocks.{IsHome}
 use Rattle.xn_bytes.specs.Inode.{data_fork_of, attr_fork_of, local_format, extents_format, has_large_counts}
@@ -37,10 +38,22 @@ pub record IsExtentList (g : Geometry) (count : ℕ) (fork : List ℕ) : Type 0 
   pub records : AreRecords count 0 fork
   pub home : AreHome g (runs_in count fork)
 
--- rule 13 of a directory: the lists of extents of its two forks, where they are such
+-- the data fork is a list of extents, where it is such; and the attribute fork, where it is there and such
+abbrev pub HasDataList : Geometry → List ℕ → Type 0
+HasDataList g inode = number_at 1 5 inode ≡ extents_format → IsExtentList g (data_extents_of inode) (data_fork_of inode)
+
+abbrev pub HasAttrList : Geometry → List ℕ → Type 0
+HasAttrList g inode = number_at 1 82 inode ≢ 0 → number_at 1 83 inode ≡ extents_format → IsExtentList g (attr_extents_of inode) (attr_fork_of inode)
+
+-- rule 13 of a directory: the lists of extents of its two forks
 pub record HasExtentLists (g : Geometry) (inode : List ℕ) : Type 0 where
-  pub of_data : number_at 1 5 inode ≡ extents_format → IsExtentList g (data_extents_of inode) (data_fork_of inode)
-  pub of_attributes : number_at 1 82 inode ≢ 0 → number_at 1 83 inode ≡ extents_format → IsExtentList g (attr_extents_of inode) (attr_fork_of inode)
+  pub of_data : HasDataList g inode
+  pub of_attributes : HasAttrList g inode
+
+-- rule 13 of any inode: the data fork is looked at only where it is a directory's
+pub record HasForkLists (g : Geometry) (inode : List ℕ) : Type 0 where
+  pub of_data : kind_of_mode (number_at 2 2 inode) ≡ Some Dir → HasDataList g inode
+  pub of_attributes : HasAttrList g inode
 
 -- ---- forms
 

@@ -27,3 +27,10 @@ pub mod Paths
 pub mod NameSpace
 pub mod Reading
 pub mod Outcome
+pub mod Attributes
+pub mod ShortAttributes
+pub mod AttributeLeaves
+pub mod AttributeForks
+pub mod ParentRecords
+pub mod AttributeRoom
+pub mod Parents

@@ -5,10 +5,10 @@ use Rattle.xn_bytes.specs.declared.status.Status.TheVariants.{Done, Usage, Image
 use Rattle.xn_bytes.specs.Numbers.{sector_of}
 use Rattle.xn_bytes.specs.Causes.{Rose}
 use Rattle.xn_bytes.specs.Superblock.{Geometry, geometry_of, IsSuperblock}
-use Rattle.xn_bytes.specs.Words.{AsksList, AsksResolve, AsksNothing}
+use Rattle.xn_bytes.specs.Words.{AsksList, AsksResolve, AsksParents, AsksNothing}
 use Rattle.xn_bytes.specs.Replies.{usage_line, image_line, reply_text}
 use Rattle.xn_bytes.specs.NameSpace.{End, Says, Breaks}
-use Rattle.xn_bytes.specs.Reading.{ListEnds, ResolveEnds}
+use Rattle.xn_bytes.specs.Reading.{ListEnds, ResolveEnds, ParentsEnd}
 
 -- ---- the image
 
@@ -51,10 +51,12 @@ Answers words image status told =
     UsageAnswers words status told
     ⊎ ((ino : ℕ) × AsksList words ino × Reads (λ g. ListEnds g ino) image status told)
     ⊎ ((path : List ℕ) × AsksResolve words path × Reads (λ g. ResolveEnds g path) image status told)
+    ⊎ ((ino : ℕ) × AsksParents words ino × Reads (λ g. ParentsEnd g ino) image status told)
 
 -- the words ask for something that is read from the image
 abbrev pub AsksToRead : List (List ℕ) → Type 0
-AsksToRead words = ((ino : ℕ) × AsksList words ino) ⊎ ((path : List ℕ) × AsksResolve words path)
+AsksToRead words =
+    ((ino : ℕ) × AsksList words ino) ⊎ ((path : List ℕ) × AsksResolve words path) ⊎ ((ino : ℕ) × AsksParents words ino)
 
 -- ---- the outcome of a call
 

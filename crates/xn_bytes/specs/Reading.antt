@@ -1,4 +1,4 @@
--- What the reading commands `list` and `resolve` answer of an image.
+-- What the reading commands `list`, `resolve` and `parents` answer of an image.
 use Rattle.std.specs.Prelude.{◌≡◌, ◌≢◌, ◌⊎◌, ℕ, List, map, All, Contains, Option, Some, None, IfSome}
 use Rattle.xn_bytes.specs.declared.kind.Kind.TheVariants.{Dir}
 use Rattle.xn_bytes.specs.declared.errno.Errno.TheVariants.{ENOENT, ENOTDIR}
@@ -13,7 +13,10 @@ use Rattle.xn_bytes.specs.Directory.{IsLive, HasNames, IsListing}
 use Rattle.xn_bytes.specs.DirectoryHolds.{DirHolds, EntriesStand, IsIndexed, StandsInBlocks}
 use Rattle.xn_bytes.specs.LeafForms.{IsInBlocks}
 use Rattle.xn_bytes.specs.DirectoryRules.{DirBreaks, DirFails, HasInode}
-use Rattle.xn_bytes.specs.Replies.{ListOf, ErrorOf, line_of}
+use Rattle.xn_bytes.specs.Replies.{ListOf, ParentsOf, ErrorOf, line_of}
+use Rattle.xn_bytes.specs.Parents.{ParentRecord}
+use Rattle.xn_bytes.specs.AttributeForks.{HasOwnInode}
+use Rattle.xn_bytes.specs.ParentRecords.{IsParentsOf, IsOrdered, ParentsBreak}
 use Rattle.xn_bytes.specs.Paths.{parts_of}
 use Rattle.xn_bytes.specs.NameSpace.{End, Says, Breaks, Place, NameMap, Step, Ends, Walks, part_error, step_to}
 
@@ -81,6 +84,22 @@ ListEnds g ino image end =
     ⊎ ((rule : ℕ) × (end ≡ Breaks ino rule 0) × BreaksCore g (inode_of g image ino) ino rule)
     ⊎ ((end ≡ Says (ErrorOf ENOTDIR)) × IsNoDirectory g (inode_of g image ino) ino)
     ⊎ (IsAttached g (inode_of g image ino) ino × ListsDirectory g ino image end)
+
+-- ---- parents
+
+-- the parent records of an inode of which rules 10, 11, 13 and 24 to 26 hold, by directory, then by name
+pub record ListsParents (g : Geometry) (image : List ℕ) (ino : ℕ) (sorted : List ParentRecord) : Type 0 where
+  pub inode : HasOwnInode g (inode_of g image ino) ino
+  pub records : List ParentRecord
+  pub parents : IsParentsOf g image ino records
+  pub ordered : IsOrdered records sorted
+
+-- What `parents` answers of an inode. The cases shut each other out, and one of them is that of the image.
+abbrev pub ParentsEnd : Geometry → ℕ → List ℕ → End → Type 0
+ParentsEnd g ino image end =
+    ((end ≡ Says (ErrorOf ENOENT)) × ¬ IsLive g ino)
+    ⊎ ((rule : ℕ) × (block : ℕ) × (end ≡ Breaks ino rule block) × IsLive g ino × ParentsBreak g image ino rule block)
+    ⊎ ((sorted : List ParentRecord) × (end ≡ Says (ParentsOf sorted)) × IsLive g ino × ListsParents g image ino sorted)
 
 -- ---- resolve
 

@@ -6,6 +6,7 @@ use Rattle.xn_bytes.specs.Kinds.{kind_word}
 use Rattle.xn_bytes.specs.Errors.{error_number, error_word}
 use Rattle.xn_bytes.specs.Escapes.{escaped}
 use Rattle.xn_bytes.specs.Entries.{Entry}
+use Rattle.xn_bytes.specs.Parents.{ParentRecord}
 
 -- between the words of a line
 abbrev pub space : ℕ
@@ -38,20 +39,26 @@ pub record Line : Type 0 where
 abbrev pub line_of : Entry → Line
 line_of entry = record { ino = entry.ino; kind = entry.kind; name = entry.name }
 
--- A reply: done; an inode and its kind; the lines of a list; or an error.
+-- A reply: done; an inode and its kind; the lines of a list; the parents of an inode; or an error.
 pub data Reply : Type 0 where
   Plain : Reply
   EntryOf : ℕ → Kind → Reply
   ListOf : List Line → Reply
+  ParentsOf : List ParentRecord → Reply
   ErrorOf : Errno → Reply
 
 -- the text of a line: `INO KIND NAME`, the name escaped
 abbrev pub line_text : Line → List ℕ
 line_text line = decimal line.ino ++ space ∷ [] ++ kind_word line.kind ++ space ∷ [] ++ escaped line.name ++ newline ∷ []
 
--- the text of a reply: `ok`; `ok INO KIND`; `ok COUNT` and a line for each entry; or `error NUMBER NAME`
+-- the text of a parent's line: `DIR GENERATION NAME`, the name escaped
+abbrev pub parent_text : ParentRecord → List ℕ
+parent_text parent = decimal parent.dir ++ space ∷ [] ++ decimal parent.generation ++ space ∷ [] ++ escaped parent.name ++ newline ∷ []
+
+-- the text of a reply: `ok`; `ok INO KIND`; `ok COUNT` and a line for each entry or parent; or `error NUMBER NAME`
 abbrev pub reply_text : Reply → List ℕ
 reply_text Plain = codes "ok" ++ newline ∷ []
 reply_text (EntryOf ino kind) = codes "ok " ++ decimal ino ++ space ∷ [] ++ kind_word kind ++ newline ∷ []
 reply_text (ListOf lines) = codes "ok " ++ decimal (length lines) ++ newline ∷ [] ++ flat_map line_text lines
+reply_text (ParentsOf parents) = codes "ok " ++ decimal (length parents) ++ newline ∷ [] ++ flat_map parent_text parents
 reply_text (ErrorOf error) = codes "error " ++ decimal (error_number error) ++ space ∷ [] ++ error_word error ++ newline ∷ []

@@ -2,6 +2,7 @@
 //! statuses of the program. Its `specs/` hold the definitions that the contracts of all crates cite.
 #![tactic(auto)]
 
+mod attribute;
 mod bytes;
 mod checksum;
 mod errno;
@@ -15,6 +16,7 @@ mod numbers;
 mod status;
 mod tables;
 
+pub use attribute::{Attribute, Value};
 pub use bytes::Bytes;
 pub use checksum::{Crc, checksum_of, has_checksum, put_checksum};
 pub use errno::Errno;
