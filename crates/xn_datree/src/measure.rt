@@ -16,12 +16,13 @@ use std::alloc::Global;
 use xn_inode::{ForkFault, Store};
 
 impl<L: Leaf> Tree<L> {
-    /// How many blocks a path from the root has, the leaf included. Broken comes only of a fork whose tree fails its rule, with
+    /// How many blocks a path from the root has, the leaf included: 5 at most. Broken comes only of a fork whose tree fails its rule, with
     /// the root's block.
     pub fn levels<S: Store>(alloc: Global, store: &mut S, fork: &Fork) -> Result<u64, ForkFault>
         requires whole { S.IsWhole store.old }
         requires blocks { AreBlocks (S.shape store.old) fork.now.extents }
         ensures levels { IfOk result (λ levels. IfSome (S.image store.old) (λ x. levels ≡ levels_of_tree (tree_of L.Holds L.ends (S.shape store.old) fork.now x))) }
+        ensures few { IfOk result (λ levels. levels ≤ 5) }
         ensures fault { IfErr result (IsVisitFault S.Store (λ x. (helds : List (Holding L.Entry)) → ¬ IsTree (tree_of L.Holds L.ends (S.shape store.old) fork.now x) helds) fork.now fork.now.root store.old store.new) }
         ensures stays { StoreStays S.Store store.old store.new }
         ensures fetches { S.fetches store.new ≤ S.fetches store.old + 1 }

@@ -6,3 +6,4 @@ pub mod Records
 pub mod Nexts
 pub mod Lasts
 pub mod Counts
+pub mod FirstBad

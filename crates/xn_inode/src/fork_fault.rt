@@ -1,7 +1,8 @@
 ghost use Rattle.std.specs.Prelude.{◌≡◌};
 ghost use Rattle.xn_inode.specs.Faults.{fork_fault_of};
-ghost use Rattle.xn_inode.specs.declared.fork_fault.ForkFault.TheVariants.{Memory};
+ghost use Rattle.xn_inode.specs.declared.fork_fault.ForkFault.TheVariants.{Memory, Broken};
 
+use crate::inode_core::CoreFault;
 use crate::store::StoreFault;
 use std::alloc::{AllocError, AllocFailed};
 
@@ -15,6 +16,23 @@ pub enum ForkFault {
     /// The inode breaks this rule of the checker. Rules of blocks name the block by its number on the device, all
     /// others block 0.
     Broken { rule: u8, block: u64 },
+}
+
+impl ForkFault {
+    /// A rule that an inode breaks, of those that name no block.
+    pub fn of_rule(rule: u8) -> ForkFault
+        ensures { result ≡ Broken rule 0 }
+    {
+        ForkFault::Broken { rule, block: 0 }
+    }
+}
+
+impl From<CoreFault> for ForkFault {
+    ghost from_gives = { λ core fault. fault ≡ Broken core.rule 0 };
+
+    fn from(fault: CoreFault) -> ForkFault {
+        ForkFault::of_rule(fault.rule)
+    }
 }
 
 impl From<StoreFault> for ForkFault {

@@ -1,9 +1,10 @@
 ghost use Rattle.std.specs.Prelude.{◌≡◌, ◌+◌, ◌*◌, ◌≤◌, ◌<◌, ◌↔◌, IsTrue, MatchResult, MatchOption, length, slice_range};
 ghost use Rattle.xn_bytes.specs.Superblock.{OrElse};
-ghost use Rattle.xn_bytes.specs.Inode.{HasCore, HasForks, CoreHolds, data_fork_end, data_fork_of, attr_fork_of, IsListFormat};
+ghost use Rattle.xn_bytes.specs.Inode.{HasCore, HasForks, HasBothForks, CoreHolds, data_fork_end, data_fork_of, attr_fork_of, IsListFormat};
 ghost use Rattle.xn_bytes.specs.Kinds.{kind_of_mode};
 ghost use Rattle.xn_bytes.specs.Numbers.{number_at};
 
+use crate::superblock::Super;
 use std::marker::Model;
 use xn_bytes::{Kind, has_checksum, u8_at, u16_at, u32_at, u64_at};
 
@@ -66,6 +67,20 @@ impl Core {
             Some(kind) => Ok(core_with_kind(bytes, kind)),
             None => Err(CoreFault { rule: 11 }),
         }
+    }
+
+    /// The core of an inode of which rules 10 and 11 hold, the attribute fork's presence included: it is there but for the
+    /// root, which may be without.
+    pub fn of_inode(geometry: &Super, ino: u64, inode: &[u8]) -> Result<Core, CoreFault>
+        ensures { MatchResult result
+            (λ core. HasCore inode.now ino geometry.now.meta_uuid × HasBothForks geometry.now inode.now ino × CoreHolds inode.now core)
+            (λ fault. OrElse fault.rule 10 (HasCore inode.now ino geometry.now.meta_uuid) (OrElse fault.rule 11 (HasBothForks geometry.now inode.now ino) ⊥)) }
+    {
+        let core = Core::read(inode, ino, geometry.meta_uuid())?;
+        if ino != geometry.root() && core.fork_offset == 0 {
+            return Err(CoreFault { rule: 11 });
+        }
+        Ok(core)
     }
 
     /// The bytes of the data fork of the inode whose core this is.

@@ -6,6 +6,7 @@ mod extents;
 mod fields;
 mod fork_fault;
 mod inode_core;
+mod lists;
 mod places;
 mod store;
 mod superblock;
