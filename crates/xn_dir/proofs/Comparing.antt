@@ -1,6 +1,7 @@
 -- Leaf entries of two lists that are sorted: they are the same where one list is the other in another order.
 use Rattle.std.proofs.Common.{◌≡◌, ℕ, suc, ◌+◌, ◌<◌, Bool, true, false, eqb, List, [], ◌∷◌, get_or, refl, sym, ap, subst, ◌∙◌, arith, inl, inr}
-use Rattle.std.specs.Prelude.{◌&&◌, ◌↔◌, All, IsPermutation, IsSortedBy, if◌then◌else◌, sum_by}
+use Rattle.std.specs.Prelude.{◌&&◌, ◌↔◌, ◌*◌, ◌^◌, All, IsPermutation, IsSortedBy, if◌then◌else◌, sum_by}
+use Rattle.std.specs.Ordering.{nat_cmp, ordering_then}
 use Rattle.std.specs.Cmp.{IsStrictWeakOrder}
 use Rattle.std.proofs.lemmas.Bool.{cases_lt, eq-eqb, eqb-true}
 use Rattle.std.proofs.lemmas.Bool.Decides.{nat_tests}
@@ -64,16 +65,21 @@ hash_of leaf = leaf.hash
 abbrev address_of : LeafEntry → ℕ
 address_of leaf = leaf.address
 
-ranks : IsStrictWeakOrder comes_before
+pub ranks : IsStrictWeakOrder comes_before
 ranks = ranks_by (then_total (on_total (λ (leaf : LeafEntry). leaf.hash) nat_cmp_total) (on_total (λ (leaf : LeafEntry). leaf.address) nat_cmp_total)) (λ leaf. leaf)
 
-less_hash : (leaf other : LeafEntry) → leaf.hash < other.hash → comes_before leaf other ≡ true
+-- hash and address as one number compare as the pair
+pub numbers_compare : (hash address other_hash other_address : ℕ) → address < 2 ^ 32 → other_address < 2 ^ 32
+    → nat_cmp (2 ^ 32 * hash + address) (2 ^ 32 * other_hash + other_address) ≡ ordering_then (nat_cmp hash other_hash) (nat_cmp address other_address)
+numbers_compare hash address other_hash other_address small other_small = grind (arith, nat_tests, common_steps)
+
+pub less_hash : (leaf other : LeafEntry) → leaf.hash < other.hash → comes_before leaf other ≡ true
 less_hash leaf other less = grind (arith, nat_tests, common_steps)
 
 less_address : (leaf other : LeafEntry) → leaf.hash ≡ other.hash → leaf.address < other.address → comes_before leaf other ≡ true
 less_address leaf other same less = grind (arith, nat_tests, common_steps)
 
-no_both : {G : Type 0} (b : Bool) → b ≡ true → b ≡ false → G
+pub no_both : {G : Type 0} (b : Bool) → b ≡ true → b ≡ false → G
 no_both true t f = absurd cc
 no_both false t f = absurd cc
 

@@ -8,7 +8,8 @@ use Rattle.xn_bytes.specs.DirectoryForms.{HasDots, HoldsFirst, HasTail, IsIndexO
 use Rattle.xn_bytes.specs.DirectoryRules.{BreaksFirst}
 use Rattle.xn_inode.specs.declared.fork_fault.ForkFault.{ForkFault}
 use Rattle.xn_inode.specs.declared.fork_fault.ForkFault.TheVariants.{Read, Memory, Broken}
-use Rattle.xn_dir.specs.Faults.{IsRule, IsFirstFault, IsIndexFault}
+use Rattle.xn_inode.specs.Faults.{IsRule}
+use Rattle.xn_dir.specs.Faults.{IsFirstFault, IsIndexFault}
 
 pub no_dots : (g : Geometry) (dir place : ℕ) (bytes : List ℕ) (held : DataForm) (all : List Entry) → ((form : DataForm) → DataHolds bytes form → held ≡ form) → all ≡ entries_among held.regions
     → ((others : List Entry) (dotdot : ℕ) → HasDots all others dotdot → ⊥) → BreaksFirst g dir place bytes 17 place

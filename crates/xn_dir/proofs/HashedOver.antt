@@ -18,7 +18,8 @@ use Rattle.xn_datree.specs.declared.fork.Fork.{Fork}
 use Rattle.xn_dir.specs.declared.entry.Entry.{Entry}
 use Rattle.xn_dir.specs.declared.form.Form.TheVariants as forms
 use Rattle.xn_dir.specs.Inodes.{IsSoundInode, IsOfForm}
-use Rattle.xn_dir.specs.Faults.{Breaks, IsFaultOver, IsHashedFault, IsRule}
+use Rattle.xn_inode.specs.Faults.{IsRule}
+use Rattle.xn_dir.specs.Faults.{Breaks, IsFaultOver, IsHashedFault}
 use Rattle.xn_dir.specs.Finding.{Finds, FindsOver, StandsOver, named}
 use Rattle.xn_dir.specs.Hashed.{HasDotdotFirst, IsForkOf, StandsIn, dir_fork}
 use Rattle.xn_dir.proofs.Following.{IfSome_both}

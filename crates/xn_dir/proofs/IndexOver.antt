@@ -1,13 +1,14 @@
 -- Rules 18 to 20 of a directory in leaf or node form, by what was read.
 use Rattle.std.proofs.Common.{◌≡◌, ℕ, ◌<◌, Bool, false, List, map, Option, Some, None, refl, sym, subst, ◌∙◌, arith, inl, inr}
 use Rattle.std.specs.Prelude.{◌↔◌, IsTrue, IsSome, IsPermutation, MatchOption, unwrap_or}
+use Rattle.std.proofs.lemmas.List.Sorted.{IsPermutation-sym, IsPermutation-trans}
 use Rattle.xn_bytes.specs.Superblock.{Geometry}
 use Rattle.xn_bytes.specs.Blocks.{block_of}
 use Rattle.xn_bytes.specs.Extents.{Run, mapped}
 use Rattle.xn_bytes.specs.DataBlock.{DataForm, LeafEntry}
 use Rattle.xn_bytes.specs.HashedTree.{DirLeafHolds, dir_leaf_ends, leaf_file_block}
 use Rattle.xn_bytes.specs.Trees.{Tree, TreeHolds}
-use Rattle.xn_bytes.specs.DirectoryForms.{IsLeafForm, IsGreatestData}
+use Rattle.xn_bytes.specs.DirectoryForms.{IsLeafForm, IsGreatestData, leaf_of}
 use Rattle.xn_bytes.specs.LeafForms.{DirFork, Placed, AreData, AreLeavesOf, HasBests, HasFreeIndexes, HasLeaves, HasLeafBests, all_entries, with_first}
 use Rattle.xn_inode.specs.Lists.{IsLastMapped}
 use Rattle.xn_datree.specs.declared.fork.Fork.{Fork}
@@ -24,10 +25,12 @@ use Rattle.xn_dir.proofs.OneForm.{same_block}
 
 -- leaf entries that are wanted, as those of all entries
 wanted_are : (d : DirFork) (first : DataForm) (others : List Placed) (leaves live : List LeafEntry) (bests : List Best) → AreGathered d first others leaves bests → IsPermutation leaves live → AreLeavesOf live (all_entries first others)
-wanted_are d first others leaves live bests gathered same = subst (λ (ls : List LeafEntry). IsPermutation ls live) gathered.leaves_are same
+wanted_are d first others leaves live bests gathered same =
+    let all : List LeafEntry = map leaf_of (all_entries first others) in
+    IsPermutation-trans all leaves live (IsPermutation-sym leaves all gathered.leaves_are) same
 
 are_wanted : (d : DirFork) (first : DataForm) (others : List Placed) (leaves live : List LeafEntry) (bests : List Best) → AreGathered d first others leaves bests → AreLeavesOf live (all_entries first others) → IsPermutation leaves live
-are_wanted d first others leaves live bests gathered same = subst (λ (ls : List LeafEntry). IsPermutation ls live) (sym gathered.leaves_are) same
+are_wanted d first others leaves live bests gathered same = IsPermutation-trans leaves (map leaf_of (all_entries first others)) live gathered.leaves_are same
 
 -- other leaf entries than those that are wanted
 pub breaks_19 : (d : DirFork) (first : DataForm) (others : List Placed) (leaves live : List LeafEntry) (bests : List Best) → HasLeaves d live → (IsPermutation leaves live → ⊥) → AreGathered d first others leaves bests → BreaksIndex d first others 19 0

@@ -8,13 +8,8 @@ use Rattle.xn_bytes.specs.LeafForms.{IsInBlocks}
 use Rattle.xn_inode.specs.declared.fork_fault.ForkFault.{ForkFault}
 use Rattle.xn_inode.specs.declared.fork_fault.ForkFault.TheVariants.{Read, Memory, Broken}
 use Rattle.xn_dir.specs.Inodes.{IsDirectory}
-use Rattle.xn_dir.specs.Faults.{IsFormFault, IsRule}
-
--- a first bad record is in no list of records
-pub bad_is_none : (count least : ℕ) (bytes : List ℕ) (at : ℕ) → IsFirstBad count least bytes at → AreRecords count least bytes → ⊥
-bad_is_none zero least bytes at bad records = bad
-bad_is_none (suc count) least bytes zero bad records = bad records.0
-bad_is_none (suc count) least bytes (suc at) bad records = bad_is_none count (end_of_run (run_in bytes)) (drop 16 bytes) at bad.1 records.1
+use Rattle.xn_inode.specs.Faults.{IsRule}
+use Rattle.xn_dir.specs.Faults.{IsFormFault}
 
 -- what breaks the lists of extents breaks rule 13 of the directory
 pub breaks_lists : (g : Geometry) (dir : ℕ) (inode : List ℕ) (Fact : Type 0) (fault : ForkFault) → HasCore inode dir g.meta_uuid → HasBothForks g inode dir → (HasExtentLists g inode → Fact)

@@ -26,3 +26,5 @@ pub mod Noted
 pub mod FreeBlocks
 pub mod Gatherings
 pub mod NotListed
+pub mod Repeats
+pub mod GatheredHashes

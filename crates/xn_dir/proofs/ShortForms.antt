@@ -11,7 +11,8 @@ use Rattle.xn_bytes.specs.DirectoryForms.{HoldsShort}
 use Rattle.xn_short.specs.Naming.{IsFirstNamed}
 use Rattle.xn_inode.specs.declared.fork_fault.ForkFault.{ForkFault}
 use Rattle.xn_inode.specs.declared.fork_fault.ForkFault.TheVariants.{Read, Memory, Broken}
-use Rattle.xn_dir.specs.Faults.{IsRule, IsShortFault}
+use Rattle.xn_inode.specs.Faults.{IsRule}
+use Rattle.xn_dir.specs.Faults.{IsShortFault}
 
 pub holds_short : (inode : List ℕ) (short : ShortForm) (entries : List held.Entry) (dotdot : ℕ) → number_at 1 5 inode ≡ local_format → HasShortSize inode × ShortHolds (short_bytes_of inode) short → entries ≡ short.entries → dotdot ≡ short.parent
     → HoldsShort inode entries dotdot

@@ -19,12 +19,6 @@ IsFormFault g dir inode Read = ⊥
 IsFormFault g dir inode Memory = Unit {0}
 IsFormFault g dir inode (Broken rule block) = IsDirectory inode → OrBreaksInode g dir inode rule block ⊥
 
--- one rule, of those that name no block, or want of memory
-abbrev pub IsRule : ℕ → Type 0 → ForkFault → Type 0
-IsRule rule Fact Read = ⊥
-IsRule rule Fact Memory = Unit {0}
-IsRule rule Fact (Broken number block) = (number ≡ rule) × (block ≡ 0) × ¬ Fact
-
 -- what a directory in leaf or node form breaks, by the geometry, the directory, its inode's bytes, and its blocks
 abbrev pub Breaks : Type 1
 Breaks = Geometry → ℕ → List ℕ → (ℕ → List ℕ) → ℕ → ℕ → Type 0

@@ -1,5 +1,5 @@
 -- The leaf entries and bests of a directory in leaf or node form, against its data blocks.
-use Rattle.std.specs.Prelude.{◌≡◌, ◌≢◌, ◌⊎◌, ℕ, ◌+◌, ◌≤◌, List, length, map, All, AllPairs, IsSome}
+use Rattle.std.specs.Prelude.{◌≡◌, ◌≢◌, ◌⊎◌, ℕ, ◌+◌, ◌≤◌, List, length, map, All, AllPairs, IsPermutation, IsSome}
 use Rattle.xn_bytes.specs.Extents.{Run, mapped}
 use Rattle.xn_bytes.specs.DataBlock.{DataForm, LeafEntry}
 use Rattle.xn_bytes.specs.HashedTree.{leaf_file_block}
@@ -9,10 +9,10 @@ use Rattle.xn_bytes.specs.DirectoryRules.{OrBreaks}
 use Rattle.xn_dir.specs.declared.bests.Best.{Best}
 use Rattle.xn_dir.specs.Bests.{noted}
 
--- the leaf entries that these data blocks ask for, and their bests
+-- the leaf entries that these data blocks ask for, in any order, and their bests
 pub record AreGathered (d : DirFork) (first : DataForm) (others : List Placed) (leaves : List LeafEntry) (bests : List Best) : Type 0 where
   pub data_blocks : AreData d (with_first first others)
-  pub leaves_are : leaves ≡ map leaf_of (all_entries first others)
+  pub leaves_are : IsPermutation leaves (map leaf_of (all_entries first others))
   pub bests_are : map noted (with_first first others) ≡ bests
 
 -- rules 18 to 20 hold

@@ -5,6 +5,7 @@ pub mod Listings
 pub mod Finding
 pub mod FirstBlocks
 pub mod Hashed
+pub mod Repeats
 pub mod SingleLeaves
 pub mod Compare
 pub mod Bests

@@ -8,13 +8,13 @@ ghost use Rattle.xn_bytes.specs.DataBlock.{DataForm, DataHolds, entries_among};
 ghost use Rattle.xn_bytes.specs.Directory.{HasNames};
 ghost use Rattle.xn_bytes.specs.DirectoryForms.{AreSorted, HasDots, HoldsFirst, HasTail, IsIndexOf};
 ghost use Rattle.xn_data.specs.Standing.{ArePlaced};
-ghost use Rattle.xn_dir.specs.Faults.{IsRule, IsFirstFault};
+ghost use Rattle.xn_inode.specs.Faults.{IsRule};
+ghost use Rattle.xn_dir.specs.Faults.{IsFirstFault};
 ghost use Rattle.xn_dir.specs.Listings.{entry_of};
 ghost use Rattle.xn_dir.specs.Finding.{AllMiss, StandsInFirst};
 
 use crate::data::{is_own, take_dots};
 use crate::entry::Entry;
-use crate::form::broken;
 use crate::index::{find, has_tail, is_indexed};
 use crate::listing::{Listed, check_once, entry_to_list};
 use std::alloc::Global;
@@ -49,7 +49,7 @@ pub(crate) fn list(
         return Err(ForkFault::Broken { rule: 18, block });
     }
     if !is_indexed(&first.held) {
-        return Err(broken(19));
+        return Err(ForkFault::of_rule(19));
     }
     let listed = entries_of(alloc, first.entries)?;
     check_once(alloc, &listed)?;

@@ -18,7 +18,7 @@ ghost use Rattle.xn_dir.specs.Finding.{FindsOver, StandsOver};
 ghost use Rattle.xn_dir.specs.declared.form.Form.TheVariants as forms;
 
 use crate::entry::Entry;
-use crate::form::{Form, broken, form_of};
+use crate::form::{Form, form_of};
 use crate::hashed_fork::hashed_fork;
 use crate::listing::Listed;
 use crate::sizes::BLOCK_BYTES;
@@ -176,7 +176,7 @@ fn read_block<S: Store>(
     ensures fetches { S.fetches store.new ≤ S.fetches store.old + 1 }
 {
     if core.size() != BLOCK_BYTES as u64 {
-        return Err(broken(15));
+        return Err(ForkFault::of_rule(15));
     }
     store.block(block, bytes)?;
     Ok(())

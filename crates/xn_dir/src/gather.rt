@@ -13,10 +13,12 @@ ghost use Rattle.xn_bytes.specs.LeafForms.{HasData, IsPlaced, Placed, all_entrie
 ghost use Rattle.xn_data.specs.Viewed.{entry_of as read_as};
 ghost use Rattle.xn_inode.specs.Frames.{StoreStays};
 ghost use Rattle.xn_inode.specs.declared.fork_fault.ForkFault.TheVariants.{Memory};
-ghost use Rattle.xn_dir.specs.Faults.{IsHashedFault, IsRule};
+ghost use Rattle.xn_inode.specs.Faults.{IsRule};
+ghost use Rattle.xn_dir.specs.Faults.{IsHashedFault};
 ghost use Rattle.xn_dir.specs.Gathering.{Adds, FetchesBelow, FetchesData, Gathers, GathersBelow, Lists};
 ghost use Rattle.xn_dir.specs.Hashed.{dir_fork};
-ghost use Rattle.xn_dir.specs.Listings.{entry_of};
+ghost use Rattle.xn_dir.specs.Listings.{entry_of, name_of};
+ghost use Rattle.xn_dir.specs.Repeats.{HaveHashes};
 
 use crate::bests::Best;
 use crate::data::{data_block, take_dots};
@@ -52,6 +54,7 @@ pub(crate) fn gather<S: Store>(
     requires blocks { AreBlocks (S.shape store.old) fork.now.extents }
     ensures holds { IfOk result (λ gathered. IfSome (S.image store.old) (λ x. (first : DataForm) × (others : List Placed) × (front : List Entry) × (dotdot : ℕ) × HasData (dir_fork (S.shape store.old) fork.now x) first others front dotdot × Gathers gathered (front ++ flat_map entries_placed others) (all_entries first others) (with_first first others))) }
     ensures names { IfOk result (λ gathered. gathered.are_names ≡ true → All (λ entry. IsName entry.name) (map entry_of gathered.listed.items)) }
+    ensures hashes { IfOk result (λ gathered. gathered.are_names ≡ true → HaveHashes gathered.leaves.items (map name_of gathered.listed.items)) }
     ensures fault { IfErr result (IsHashedFault S.Store (λ x rule block. (rule ≡ 17) × BreaksData (dir_fork (S.shape store.old) fork.now x) block) store.old store.new) }
     ensures stays { StoreStays S.Store store.old store.new }
     ensures fetches { FetchesData fork.now.extents (S.fetches store.old) (S.fetches store.new) }

@@ -4,11 +4,10 @@ ghost use Rattle.std.specs.Prelude.{◌≡◌, ◌↔◌, IsTrue, IfOk, IfErr};
 ghost use Rattle.xn_bytes.specs.Trees.{AreBlocks};
 ghost use Rattle.xn_bytes.specs.DirectoryForms.{HasBlocksSize};
 ghost use Rattle.xn_dir.specs.Inodes.{IsOfForm, IsSoundInode};
-ghost use Rattle.xn_dir.specs.Faults.{IsRule};
+ghost use Rattle.xn_inode.specs.Faults.{IsRule};
 ghost use Rattle.xn_dir.specs.Hashed.{HasSize, IsForkOf};
 ghost use Rattle.xn_dir.specs.declared.form.Form.TheVariants as forms;
 
-use crate::form::{broken, extents_of};
 use crate::sizes::{BLOCK_BYTES, LEAF_FILE_BLOCK};
 use std::alloc::Global;
 use xn_datree::Fork;
@@ -32,9 +31,9 @@ pub(crate) fn hashed_fork(
     ensures fault { IfErr result (IsRule 15 (HasBlocksSize inode.now)) }
 {
     let bytes = core.data_fork(inode);
-    let extents = extents_of(alloc, geometry, bytes, core.data_extents())?;
+    let extents = Extents::of_fork(alloc, geometry, bytes, core.data_extents())?;
     if !has_size(&extents, core.size()) {
-        return Err(broken(15));
+        return Err(ForkFault::of_rule(15));
     }
     Ok(Fork {
         owner: dir,

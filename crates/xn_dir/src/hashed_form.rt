@@ -18,7 +18,6 @@ ghost use Rattle.xn_dir.specs.Hashed.{BreaksAtLeaf, HasDotdotFirst, IsDirFork, L
 
 use crate::data::{data_block, take_dots};
 use crate::entry::Entry;
-use crate::form::broken;
 use crate::index::standing_at;
 use crate::leaves::with_hash;
 use crate::sizes::BLOCK_BYTES;
@@ -63,7 +62,7 @@ pub(crate) fn parent<S: Store>(store: &mut S, fork: &Fork) -> Result<u64, ForkFa
     ensures fetches { S.fetches store.new ≤ S.fetches store.old + 1 }
 {
     let Some(block) = fork.extents.block_at(0) else {
-        return Err(broken(17));
+        return Err(ForkFault::of_rule(17));
     };
     let mut bytes = [0; BLOCK_BYTES];
     store.block(block, &mut bytes)?;
@@ -125,7 +124,7 @@ fn follow<S: Store>(
 {
     let number = number_of(leaf);
     let Some(block) = fork.extents.block_at(number) else {
-        return Err(broken(19));
+        return Err(ForkFault::of_rule(19));
     };
     let mut bytes = [0; BLOCK_BYTES];
     store.block(block, &mut bytes)?;
@@ -133,7 +132,7 @@ fn follow<S: Store>(
         return Err(ForkFault::Broken { rule: 17, block });
     };
     let Some(entry) = standing_at(&held, place_of(leaf)) else {
-        return Err(broken(19));
+        return Err(ForkFault::of_rule(19));
     };
     if entry.name == name.bytes() {
         Ok(Some(placed_entry(number, &entry)))

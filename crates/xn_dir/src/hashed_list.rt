@@ -1,6 +1,6 @@
 //! The list of a directory in leaf or node form: rules 17 to 21.
 
-ghost use Rattle.std.specs.Prelude.{◌≡◌, ◌≢◌, ◌+◌, ◌≤◌, ℕ, true, AllPairs, IfOk, IfErr, IfSome, List, MatchResult, map};
+ghost use Rattle.std.specs.Prelude.{◌≡◌, ◌≢◌, ◌+◌, ◌≤◌, ℕ, true, AllPairs, IfOk, IfErr, IfSome, IsSortedBy, List, MatchResult, map};
 ghost use Rattle.xn_bytes.specs.Trees.{AreBlocks};
 ghost use Rattle.xn_bytes.specs.Directory.{HasNames};
 ghost use Rattle.xn_bytes.specs.DirectoryForms.{IsLeafForm};
@@ -8,17 +8,19 @@ ghost use Rattle.xn_bytes.specs.LeafForms.{HoldsHashed};
 ghost use Rattle.xn_bytes.specs.DirectoryRules.{BreaksHashed};
 ghost use Rattle.xn_bytes.specs.Costs.{mapped_count};
 ghost use Rattle.xn_inode.specs.Frames.{StoreStays};
-ghost use Rattle.xn_dir.specs.Faults.{IsHashedFault, IsRule};
+ghost use Rattle.xn_inode.specs.Faults.{IsRule};
+ghost use Rattle.xn_dir.specs.Compare.{comes_before};
+ghost use Rattle.xn_dir.specs.Faults.{IsHashedFault};
 ghost use Rattle.xn_dir.specs.Hashed.{IsDirFork, dir_fork};
 ghost use Rattle.xn_dir.specs.Listings.{entry_of, name_of};
 ghost use Rattle.xn_dir.specs.Indexed.{FetchesIndex, IsIndexed, IsMisindexed};
+ghost use Rattle.xn_dir.specs.Repeats.{HaveHashes};
 
 use crate::bests::{Best, are_leaf_bests, has_free_indexes};
-use crate::compare::are_same;
-use crate::form::broken;
+use crate::compare::{are_same, in_order};
 use crate::gather::{Gathered, gather};
 use crate::leaves::{is_leaf_form, read_single_leaf};
-use crate::listing::{Listed, check_once};
+use crate::listing::{Listed, check_once_among};
 use crate::sizes::LEAF_FILE_BLOCK;
 use std::alloc::Global;
 use xn_datree::{Fork, Tree};
@@ -46,21 +48,29 @@ pub(crate) fn list<S: Store>(
         leaves,
         bests,
     } = gather(alloc, store, fork)?;
-    check_index(alloc, store, fork, leaves, &bests)?;
-    check_names(alloc, &listed, are_names)?;
+    let wanted = in_order(leaves);
+    check_index(alloc, store, fork, &wanted, &bests)?;
+    check_names(alloc, &listed, are_names, &wanted)?;
     Ok(listed)
 }
 
-/// Rule 21: each entry has a name, and each name stands once.
-fn check_names(alloc: Global, listed: &[Listed], are_names: bool) -> Result<(), ForkFault>
+/// Rule 21: each entry has a name, and each name stands once. Their leaf entries are among these.
+fn check_names(
+    alloc: Global,
+    listed: &[Listed],
+    are_names: bool,
+    leaves: &[HashAt],
+) -> Result<(), ForkFault>
+    requires sorted { IsSortedBy comes_before leaves.now }
+    requires among { are_names ≡ true → HaveHashes leaves.now (map name_of listed.now) }
     ensures { MatchResult result
         (λ _. (are_names ≡ true) × AllPairs (λ a b. a ≢ b) (map name_of listed.now))
         (IsRule 21 ((are_names ≡ true) × AllPairs (λ a b. a ≢ b) (map name_of listed.now))) }
 {
     if are_names {
-        check_once(alloc, listed)
+        check_once_among(alloc, listed, leaves)
     } else {
-        Err(broken(21))
+        Err(ForkFault::of_rule(21))
     }
 }
 
@@ -69,14 +79,15 @@ fn check_index<S: Store>(
     alloc: Global,
     store: &mut S,
     fork: &Fork,
-    leaves: Vec<HashAt>,
+    leaves: &[HashAt],
     bests: &[Best],
 ) -> Result<(), ForkFault>
     requires whole { S.IsWhole store.old }
     requires blocks { AreBlocks (S.shape store.old) fork.now.extents }
     requires fork { IsDirFork fork.now }
-    ensures right { IfOk result (λ _. IfSome (S.image store.old) (λ x. IsIndexed (dir_fork (S.shape store.old) fork.now x) leaves.items bests.now)) }
-    ensures fault { IfErr result (IsHashedFault S.Store (λ x. IsMisindexed (dir_fork (S.shape store.old) fork.now x) leaves.items bests.now) store.old store.new) }
+    requires sorted { IsSortedBy comes_before leaves.now }
+    ensures right { IfOk result (λ _. IfSome (S.image store.old) (λ x. IsIndexed (dir_fork (S.shape store.old) fork.now x) leaves.now bests.now)) }
+    ensures fault { IfErr result (IsHashedFault S.Store (λ x. IsMisindexed (dir_fork (S.shape store.old) fork.now x) leaves.now bests.now) store.old store.new) }
     ensures stays { StoreStays S.Store store.old store.new }
     ensures fetches { FetchesIndex fork.now.extents (S.fetches store.old) (S.fetches store.new) }
 {
@@ -92,24 +103,25 @@ fn check_leaf_form<S: Store>(
     alloc: Global,
     store: &mut S,
     fork: &Fork,
-    leaves: Vec<HashAt>,
+    leaves: &[HashAt],
     bests: &[Best],
 ) -> Result<(), ForkFault>
     requires whole { S.IsWhole store.old }
     requires blocks { AreBlocks (S.shape store.old) fork.now.extents }
+    requires sorted { IsSortedBy comes_before leaves.now }
     requires leaf_form { IsLeafForm fork.now.extents }
-    ensures right { IfOk result (λ _. IfSome (S.image store.old) (λ x. IsIndexed (dir_fork (S.shape store.old) fork.now x) leaves.items bests.now)) }
-    ensures fault { IfErr result (IsHashedFault S.Store (λ x. IsMisindexed (dir_fork (S.shape store.old) fork.now x) leaves.items bests.now) store.old store.new) }
+    ensures right { IfOk result (λ _. IfSome (S.image store.old) (λ x. IsIndexed (dir_fork (S.shape store.old) fork.now x) leaves.now bests.now)) }
+    ensures fault { IfErr result (IsHashedFault S.Store (λ x. IsMisindexed (dir_fork (S.shape store.old) fork.now x) leaves.now bests.now) store.old store.new) }
     ensures stays { StoreStays S.Store store.old store.new }
     ensures fetches { FetchesIndex fork.now.extents (S.fetches store.old) (S.fetches store.new) }
 {
     let leaf = read_single_leaf(alloc, store, fork)?;
     let last = fork.extents.last_mapped(LEAF_FILE_BLOCK).unwrap_or(0);
     let are_right = are_leaf_bests(last, bests, &leaf.bests);
-    if !are_same(alloc, leaves, leaf.live)? {
-        Err(broken(19))
+    if !are_same(leaves, leaf.live) {
+        Err(ForkFault::of_rule(19))
     } else if !are_right {
-        Err(broken(20))
+        Err(ForkFault::of_rule(20))
     } else {
         Ok(())
     }
@@ -120,24 +132,25 @@ fn check_node_form<S: Store>(
     alloc: Global,
     store: &mut S,
     fork: &Fork,
-    leaves: Vec<HashAt>,
+    leaves: &[HashAt],
     bests: &[Best],
 ) -> Result<(), ForkFault>
     requires whole { S.IsWhole store.old }
     requires blocks { AreBlocks (S.shape store.old) fork.now.extents }
     requires fork { IsDirFork fork.now }
+    requires sorted { IsSortedBy comes_before leaves.now }
     requires node_form { ¬ IsLeafForm fork.now.extents }
-    ensures right { IfOk result (λ _. IfSome (S.image store.old) (λ x. IsIndexed (dir_fork (S.shape store.old) fork.now x) leaves.items bests.now)) }
-    ensures fault { IfErr result (IsHashedFault S.Store (λ x. IsMisindexed (dir_fork (S.shape store.old) fork.now x) leaves.items bests.now) store.old store.new) }
+    ensures right { IfOk result (λ _. IfSome (S.image store.old) (λ x. IsIndexed (dir_fork (S.shape store.old) fork.now x) leaves.now bests.now)) }
+    ensures fault { IfErr result (IsHashedFault S.Store (λ x. IsMisindexed (dir_fork (S.shape store.old) fork.now x) leaves.now bests.now) store.old store.new) }
     ensures stays { StoreStays S.Store store.old store.new }
     ensures fetches { FetchesIndex fork.now.extents (S.fetches store.old) (S.fetches store.new) }
 {
     let live = Tree::<DirLeaf>::walk(alloc, store, fork)?;
-    if !are_same(alloc, leaves, live)? {
-        return Err(broken(19));
+    if !are_same(leaves, live) {
+        return Err(ForkFault::of_rule(19));
     }
     if !has_free_indexes(store, fork.owner, &fork.extents, bests)? {
-        return Err(broken(20));
+        return Err(ForkFault::of_rule(20));
     }
     Ok(())
 }

@@ -10,7 +10,6 @@ ghost use Rattle.xn_dir.specs.Faults.{IsIndexFault};
 ghost use Rattle.xn_dir.specs.Finding.{HasPlace, AllMiss, Finds};
 
 use crate::entry::Entry;
-use crate::form::broken;
 use xn_bytes::{Name, name_hash};
 use xn_data::{DataBlock, DataEntry};
 use xn_inode::ForkFault;
@@ -115,7 +114,7 @@ fn index_fault(first: &DataBlock<'_>, block: u64) -> ForkFault
     ensures { IsIndexFault block first.now result }
 {
     if has_tail(first) {
-        broken(19)
+        ForkFault::of_rule(19)
     } else {
         ForkFault::Broken { rule: 18, block }
     }

@@ -15,7 +15,6 @@ ghost use Rattle.xn_dir.specs.Faults.{IsHashedFault};
 ghost use Rattle.xn_dir.specs.Hashed.{IsDirFork, dir_fork};
 ghost use Rattle.xn_dir.specs.SingleLeaves.{IsLeafRead};
 
-use crate::form::broken;
 use crate::single_leaf::{SingleLeaf, single_leaf};
 use crate::sizes::{BLOCK_BYTES, LEAF_FILE_BLOCK};
 use std::alloc::{AllocError, Global};
@@ -91,7 +90,7 @@ pub(crate) fn read_single_leaf<S: Store>(
     ensures fetches { S.fetches store.new ≤ S.fetches store.old + 1 }
 {
     let Some(block) = fork.extents.block_at(LEAF_FILE_BLOCK) else {
-        return Err(broken(18));
+        return Err(ForkFault::of_rule(18));
     };
     let mut bytes = [0; BLOCK_BYTES];
     store.block(block, &mut bytes)?;

@@ -8,12 +8,12 @@ ghost use Rattle.xn_bytes.specs.Entries as held;
 ghost use Rattle.xn_bytes.specs.ShortDirectory.{ShortForm, ShortHolds};
 ghost use Rattle.xn_bytes.specs.Directory.{HasShortSize, short_bytes_of, HasNames};
 ghost use Rattle.xn_bytes.specs.DirectoryForms.{HoldsShort};
-ghost use Rattle.xn_dir.specs.Faults.{IsRule, IsShortFault};
+ghost use Rattle.xn_inode.specs.Faults.{IsRule};
+ghost use Rattle.xn_dir.specs.Faults.{IsShortFault};
 ghost use Rattle.xn_dir.specs.Listings.{entry_of};
 ghost use Rattle.xn_dir.specs.Finding.{Finds};
 
 use crate::entry::Entry;
-use crate::form::broken;
 use crate::listing::{Listed, check_once, entry_to_list};
 use std::alloc::Global;
 use xn_bytes::Name;
@@ -74,11 +74,11 @@ fn short_of<'a>(core: &Core, inode: &'a [u8]) -> Result<Short<'a>, ForkFault>
     let fork = core.data_fork(inode);
     let size = core.size();
     if size > fork.len() as u64 {
-        return Err(broken(15));
+        return Err(ForkFault::of_rule(15));
     }
     match Short::read(&fork[..size as usize]) {
         Ok(short) => Ok(short),
-        Err(_) => Err(broken(16)),
+        Err(_) => Err(ForkFault::of_rule(16)),
     }
 }
 

@@ -12,7 +12,7 @@ ghost use Rattle.xn_text.specs.Viewed.{line_of};
 ghost use Rattle.xn_ns.specs.Ends.{Answered};
 ghost use Rattle.xn_ns.specs.Lines.{AreLinesOf, listed_line};
 
-use crate::fault::{SeeFault, of_directory};
+use crate::fault::{SeeFault, of_inode};
 use crate::sight::{Sight, look_at};
 use std::alloc::{AllocError, Global};
 use xn_bytes::Errno;
@@ -53,7 +53,7 @@ fn list_directory<S: Store>(alloc: Global, store: &mut S, dir: u64) -> Result<Re
 {
     match Dir::list(alloc, store, dir) {
         Ok(listed) => Ok(Reply::List(Lines::new(sorted_lines(alloc, listed)?))),
-        Err(fault) => Err(of_directory(fault, dir)),
+        Err(fault) => Err(of_inode(fault, dir)),
     }
 }
 
@@ -62,11 +62,11 @@ fn sorted_lines(alloc: Global, listed: Vec<Listed>) -> Result<Vec<ListLine>, All
     requires { HasNames (map entry_of listed.items) }
     ensures { IfOk result (λ lines. AreLinesOf (map entry_of listed.items) (map line_of lines.items)) }
 {
-    let mut sorted = listed;
+    let mut lines = lines_of(alloc, listed)?;
     // Numbers are sorted fastest. The second sort finds all in place whose first bytes differ.
-    sorted.sort_by_cached_key(|entry| front_of(entry.name.bytes()))?;
-    sorted.sort_by(|entry, other| entry.name.bytes().cmp(other.name.bytes()))?;
-    lines_of(alloc, sorted)
+    lines.sort_by_cached_key(|line| front_of(line.name.bytes()))?;
+    lines.sort_by(|line, other| line.name.bytes().cmp(other.name.bytes()))?;
+    Ok(lines)
 }
 
 /// The first bytes of a name as a number, zeros behind a name that has fewer.

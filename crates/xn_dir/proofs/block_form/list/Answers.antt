@@ -8,7 +8,7 @@ use Rattle.xn_dir.proofs.block_form.list.Goals as goal
 pub returns-then-not-is_indexed-clause-fault : goal.returns-then-not-is_indexed-clause-fault
 returns-then-not-is_indexed-clause-fault c =
     let first = c.in_ok-first.first in
-    rw c.broken.ensures (inr (first.held, first.entries, first.dotdot, c.in_ok-first.ensures.holds, inr (holds c.if-not-has_tail.ensures, inl (refl, refl, fails c.if-not-is_indexed.ensures))))
+    rw c.of_rule.ensures (inr (first.held, first.entries, first.dotdot, c.in_ok-first.ensures.holds, inr (holds c.if-not-has_tail.ensures, inl (refl, refl, fails c.if-not-is_indexed.ensures))))
 
 pub returns-in_err-listed-clause-fault : goal.returns-in_err-listed-clause-fault
 returns-in_err-listed-clause-fault c =

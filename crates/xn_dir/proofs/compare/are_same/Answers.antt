@@ -1,12 +1,13 @@
 use Rattle.std.proofs.Common.{sym, ◌∙◌}
+use Rattle.std.proofs.lemmas.List.Sorted.{IsPermutation-refl}
 use Rattle.xn_dir.proofs.Comparing.{same_sorted}
 use Rattle.xn_dir.proofs.compare.are_same.Goals as goal
 
 pub returns : goal.returns
 returns c =
     let tells =
-    same_sorted c.args.wanted.items c.args.live.items c.in_ok-wanted.wanted.items c.in_ok-live.live.items c.in_ok-wanted.ensures.same c.in_ok-live.ensures.same c.in_ok-wanted.ensures.sorted
-    c.in_ok-live.ensures.sorted in (
-      λ t. tells.0 (sym c.deref.ensures.value ∙ c.are_equal.ensures.0 t ∙ c.deref-2.ensures.value),
-      λ moved. c.are_equal.ensures.1 (c.deref.ensures.value ∙ tells.1 moved ∙ sym c.deref-2.ensures.value),
+    same_sorted c.args.wanted.now c.args.live.items c.args.wanted.now c.in_order.result.items (IsPermutation-refl c.args.wanted.now) c.in_order.ensures.same c.requires
+    c.in_order.ensures.sorted in (
+      λ t. tells.0 (c.are_equal.ensures.0 t ∙ c.deref.ensures.value),
+      λ moved. c.are_equal.ensures.1 (tells.1 moved ∙ sym c.deref.ensures.value),
     )

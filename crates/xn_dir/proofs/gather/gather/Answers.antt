@@ -2,6 +2,7 @@ use Rattle.std.proofs.Common.{arith}
 use Rattle.std.proofs.lemmas.Result.{err_from_is_err_and}
 use Rattle.xn_inode.proofs.Frames.{stays_on}
 use Rattle.xn_dir.proofs.Gatherings.{all_gathered, all_read, next_breaks, next_gathered, read_on}
+use Rattle.xn_dir.proofs.GatheredHashes.{have_hashes}
 use Rattle.xn_dir.proofs.gather.gather.Goals as goal
 
 pub returns-in_err-gather_next-clause-fault : goal.returns-in_err-gather_next-clause-fault
@@ -39,3 +40,7 @@ returns-clause-holds g c =
     let loop = c.loop-number.invariant in
     let store = c.args.store.now in
     all_gathered (g.S.Store.shape store) c.args.fork.now (g.S.Store.image store) c.loop-number.from c.loop-number.gathered loop.gathers loop.high c.in_default.ensures
+
+pub returns-clause-hashes : goal.returns-clause-hashes
+returns-clause-hashes g c =
+    have_hashes (g.S.Store.shape c.args.store.now) c.args.fork.now (g.S.Store.image c.args.store.now) c.loop-number.from c.loop-number.gathered c.loop-number.invariant.gathers

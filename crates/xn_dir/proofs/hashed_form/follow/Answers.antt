@@ -11,7 +11,7 @@ use Rattle.xn_dir.proofs.hashed_form.follow.Goals as goal
 pub returns-in_default-clause-fault : goal.returns-in_default-clause-fault
 returns-in_default-clause-fault g c =
     let S = g.S.Store in
-    rw c.broken.ensures (every (S.image c.args.store.now) _ (λ x. inr (
+    rw c.of_rule.ensures (every (S.image c.args.store.now) _ (λ x. inr (
       refl,
       refl,
       unmapped_leads_nowhere (dir_fork (S.shape c.args.store.now) c.args.fork.now x) c.args.leaf (sym (rw c.number_of-number.ensures.number at c.in_default.ensures)),
@@ -30,7 +30,7 @@ returns-in_default-standing_at-clause-fault g c =
     let S = g.S.Store in
     let read = c.in_ok-block.ensures in
     let holds = rw (c.geometry.ensures ∙ read.shape) at c.in-Some-data_block.ensures in
-    rw c.broken-in_default-standing_at.ensures (IfSome_then (S.image c.args.store.now) read.bytes
+    rw c.of_rule-in_default-standing_at.ensures (IfSome_then (S.image c.args.store.now) read.bytes
     (λ x shown. inr (
       refl,
       refl,

@@ -1,8 +1,0 @@
-use Rattle.std.proofs.Common.{refl}
-use Rattle.xn_dir.proofs.InodeFaults.{bad_is_none}
-use Rattle.xn_dir.proofs.form.extents_of.Goals as goal
-
-pub returns-in-Err-Bad : goal.returns-in-Err-Bad
-returns-in-Err-Bad c =
-    let bad = rw c.in-Err-Bad.field-0-is at c.in-Err-Bad.ensures in
-    rw c.broken.ensures (refl, refl, λ list. bad_is_none c.args.count 0 c.args.fork.now c.in-Err-Bad.field-0-0 bad list.records)
