@@ -1,0 +1,11 @@
+pub mod ShortAttribute
+pub mod ShortEnds
+pub mod ShortAttributesForms
+pub mod Marking
+pub mod LeafRead
+pub mod Frames
+pub mod Pieces
+pub mod Names
+pub mod Headers
+pub mod Standing
+pub mod Filling

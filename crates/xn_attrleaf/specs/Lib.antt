@@ -1,0 +1,12 @@
+pub mod Filled
+pub mod ShortChecks
+pub mod ShortViewed
+pub mod Entries
+pub mod EntriesRead
+pub mod Marks
+pub mod Sizes
+pub mod Spans
+pub mod Laws
+pub mod SameBody
+pub mod SameAttribute
+pub mod Putting
