@@ -1,0 +1,5 @@
+pub mod Lists
+pub mod Searching
+pub mod OverImages
+pub mod Reached
+pub mod Rooms
