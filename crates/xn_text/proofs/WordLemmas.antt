@@ -1,13 +1,13 @@
 -- The words of the command line by their places.
-use Rattle.std.proofs.Common.{◌≡◌, ◌∙◌, ℕ, zero, suc, subst, ◌<◌, ◌≤◌, true, List, [], ◌∷◌, length, get_or, map, refl, sym, ap, arith, Option, Some, None, Ok}
-use Rattle.std.specs.Prelude.{MatchOption, All, codes, decimal, option_map, unwrap_or}
+use Rattle.std.proofs.Common.{◌≡◌, ◌≢◌, ◌∙◌, ℕ, zero, suc, subst, ◌<◌, ◌≤◌, ◌^◌, true, List, [], ◌∷◌, length, get_or, map, refl, sym, ap, ap₂, arith, Option, Some}
+use Rattle.std.specs.Prelude.{All, codes, decimal, option_map, unwrap_or}
 use Rattle.std.proofs.lemmas.List.Elements.{All-tail}
 use Rattle.clap.specs.Words.{found_of, matched_of, raw_values}
 use Rattle.clap.specs.declared.parser.matches.ArgMatches.{ArgMatches}
 use Rattle.xn_text.specs.Arguments.{IsSplit}
-use Rattle.xn_bytes.specs.Words.{IsWord, AsksList, AsksResolve, AsksNothing}
+use Rattle.xn_bytes.specs.Escapes.{escaped}
+use Rattle.xn_bytes.specs.Words.{IsWord, AsksOf, AsksList, AsksParents, AsksResolve, AsksNothing}
 use Rattle.xn_text.proofs.NumberLemmas.{decimal_word}
-use Rattle.std.specs.Option.{ok_or}
 use Rattle.std.specs.Borrow.{Bor}
 use Rattle.std.specs.Str.{bytes_eq}
 use Rattle.std.proofs.lemmas.Slice.Eq.{bytes_eq-Decides}
@@ -25,10 +25,65 @@ of_three (a ∷ b ∷ c ∷ e ∷ words) d h k = absurd (omega arith)
 pub same_text : (xs ys : List ℕ) → true ≡ bytes_eq xs ys → xs ≡ ys
 same_text xs ys e = (bytes_eq-Decides xs ys).0 (sym e)
 
--- a number that was read, and no fault in its place
-pub number_read : {E : Type 0} (found : Option ℕ) (n : ℕ) (fault : E) (text : List ℕ) (N : Type 0) → Ok n ≡ ok_or found fault → MatchOption found N (λ m. text ≡ decimal m) → text ≡ decimal n
-number_read (Some m) n fault text N is read = cc
-number_read None n fault text N is read = absurd cc
+-- where no word stands
+abbrev pub none : Bor (List ℕ)
+none = record { ref_ptr = (0, 0); now = [] }
+
+-- the words of a form that ends with an inode
+pub asks_of : (command first : List ℕ) (rest : List (Bor (List ℕ))) (ino : ℕ) → true ≡ bytes_eq first command → 3 ≤ length rest → length rest < 4
+    → All (λ word. IsWord word.now) rest → (get_or rest 2 none).now ≡ decimal ino → ino < 2 ^ 64 → AsksOf command (first ∷ map (λ word. word.now) rest) ino
+asks_of command first rest ino same least most are last small = record {
+  image = (get_or rest 0 none).now;
+  manifest = (get_or rest 1 none).now;
+  form = ap₂ (λ (word : List ℕ) (words : List (List ℕ)). word ∷ words) (same_text first command same)
+      (of_three rest none least most ∙ ap (λ (word : List ℕ). (get_or rest 0 none).now ∷ (get_or rest 1 none).now ∷ word ∷ []) last);
+  image_word = are 0 none (omega arith);
+  manifest_word = are 1 none (omega arith);
+  small = small;
+}
+
+-- ---- words of which the last is none of its form
+
+distinct : (command one other : List ℕ) → true ≡ bytes_eq command one → get_or one 0 0 ≢ get_or other 0 0 → command ≢ other
+distinct command one other same differ is = differ (ap (λ (word : List ℕ). get_or word 0 0) (sym (same_text command one same) ∙ is))
+
+module _ (command : List ℕ) (rest : List (Bor (List ℕ))) (least : 3 ≤ length rest) (most : length rest < 4) where
+  abbrev last : List ℕ
+  last = (get_or rest 2 none).now
+
+  abbrev IsNoInode : Type 0
+  IsNoInode = (ino : ℕ) → ino < 2 ^ 64 → last ≢ decimal ino
+
+  abbrev IsNoPath : Type 0
+  IsNoPath = (path : List ℕ) → All (λ byte. byte < 256) path → last ≢ escaped path
+
+  parts : (first image manifest end : List ℕ) → command ∷ map (λ word. word.now) rest ≡ first ∷ image ∷ manifest ∷ end ∷ [] → (command ≡ first) × (last ≡ end)
+  parts first image manifest end form = let three = of_three rest none least most in (cc, cc)
+
+  refused : (command ≡ codes "list" → IsNoInode) → (command ≡ codes "resolve" → IsNoPath) → (command ≡ codes "parents" → IsNoInode)
+      → AsksNothing (command ∷ map (λ word. word.now) rest)
+  refused lists resolves parents = record {
+    no_list = λ ino asks. let are = parts _ _ _ _ asks.form in lists are.0 ino asks.small are.1;
+    no_resolve = λ path asks. let are = parts _ _ _ _ asks.form in resolves are.0 path asks.bytes are.1;
+    no_parents = λ ino asks. let are = parts _ _ _ _ asks.form in parents are.0 ino asks.small are.1;
+  }
+
+  pub list_refused : true ≡ bytes_eq command (codes "list") → IsNoInode → AsksNothing (command ∷ map (λ word. word.now) rest)
+  list_refused same unread = refused (λ is. unread)
+      (λ is. absurd (distinct command (codes "list") (codes "resolve") same (λ e. omega (arith, e)) is))
+      (λ is. absurd (distinct command (codes "list") (codes "parents") same (λ e. omega (arith, e)) is))
+
+  pub parents_refused : true ≡ bytes_eq command (codes "parents") → IsNoInode → AsksNothing (command ∷ map (λ word. word.now) rest)
+  parents_refused same unread = refused
+      (λ is. absurd (distinct command (codes "parents") (codes "list") same (λ e. omega (arith, e)) is))
+      (λ is. absurd (distinct command (codes "parents") (codes "resolve") same (λ e. omega (arith, e)) is))
+      (λ is. unread)
+
+  pub path_refused : true ≡ bytes_eq command (codes "resolve") → IsNoPath → AsksNothing (command ∷ map (λ word. word.now) rest)
+  path_refused same unread = refused
+      (λ is. absurd (distinct command (codes "resolve") (codes "list") same (λ e. omega (arith, e)) is))
+      (λ is. unread)
+      (λ is. absurd (distinct command (codes "resolve") (codes "parents") same (λ e. omega (arith, e)) is))
 
 -- ---- each word of a form is one
 
@@ -39,12 +94,16 @@ four P a b c d pa pb pc pd (suc (suc zero)) e lt = pc
 four P a b c d pa pb pc pd (suc (suc (suc zero))) e lt = pd
 four P a b c d pa pb pc pd (suc (suc (suc (suc k)))) e lt = absurd (omega arith)
 
-pub list_words : (words : List (List ℕ)) (ino : ℕ) → AsksList words ino → All IsWord words
-list_words words ino asks =
-    let list : IsWord (codes "list") = record { some = omega arith; no_dash = λ e. omega (arith, e) } in
-    subst (All IsWord) (sym asks.form) (four IsWord _ _ _ _ list asks.image_word asks.manifest_word (decimal_word ino asks.small))
+inode_words : (command : List ℕ) (words : List (List ℕ)) (ino : ℕ) → IsWord command → AsksOf command words ino → All IsWord words
+inode_words command words ino is asks = subst (All IsWord) (sym asks.form) (four IsWord _ _ _ _ is asks.image_word asks.manifest_word (decimal_word ino asks.small))
 
-pub resolve_words : (words : List (List ℕ)) (path : List ℕ) → AsksResolve words path → All IsWord words
+list_words : (words : List (List ℕ)) (ino : ℕ) → AsksList words ino → All IsWord words
+list_words words ino asks = inode_words (codes "list") words ino (record { some = omega arith; no_dash = λ e. omega (arith, e) }) asks
+
+parents_words : (words : List (List ℕ)) (ino : ℕ) → AsksParents words ino → All IsWord words
+parents_words words ino asks = inode_words (codes "parents") words ino (record { some = omega arith; no_dash = λ e. omega (arith, e) }) asks
+
+resolve_words : (words : List (List ℕ)) (path : List ℕ) → AsksResolve words path → All IsWord words
 resolve_words words path asks =
     let resolve : IsWord (codes "resolve") = record { some = omega arith; no_dash = λ e. omega (arith, e) } in
     subst (All IsWord) (sym asks.form) (four IsWord _ _ _ _ resolve asks.image_word asks.manifest_word asks.path_word)
@@ -54,6 +113,7 @@ pub asks_nothing : (words : List (List ℕ)) → ¬ All IsWord words → AsksNot
 asks_nothing words none = record {
   no_list = λ ino asks. none (list_words words ino asks);
   no_resolve = λ path asks. none (resolve_words words path asks);
+  no_parents = λ ino asks. none (parents_words words ino asks);
 }
 
 pub all_unmapped : {X Y : Type 0} (P : Y → Type 0) (f : X → Y) (xs : List X) → All P (map f xs) → All (λ x. P (f x)) xs

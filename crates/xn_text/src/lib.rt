@@ -5,10 +5,11 @@ mod arguments;
 mod line;
 mod number;
 mod reply;
+mod row;
 mod told;
 mod words;
 
-pub use line::{Lines, ListLine};
+pub use line::{Lines, ListLine, ParentLine, ParentLines};
 pub use reply::Reply;
 pub use told::{image_line, usage_line};
 pub use words::{FORMS, Words, WordsFault};

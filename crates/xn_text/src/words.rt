@@ -1,4 +1,5 @@
-ghost use Rattle.std.specs.Prelude.{◌≡◌, ◌∷◌, ◌↔◌, IsTrue, All, IfOk, IfErr, List, map, string_bytes};
+ghost use Rattle.std.specs.Prelude.{◌≡◌, ◌≢◌, ◌<◌, ◌^◌, ◌∷◌, ◌↔◌, ℕ, IsTrue, All, IfOk, IfErr, List, decimal, map, string_bytes};
+ghost use Rattle.xn_bytes.specs.Escapes.{escaped};
 ghost use Rattle.xn_bytes.specs.Words.{IsWord, AsksNothing};
 ghost use Rattle.xn_text.specs.Asked.{AsksFor, IsRefusal};
 ghost use Rattle.xn_text.specs.declared.words.WordsFault.TheVariants.{Usage, Memory};
@@ -12,6 +13,7 @@ use xn_bytes::{Bytes, EscapeFault, unescape};
 pub const FORMS: &str = "\
 xfsns list IMAGE MANIFEST INO: a directory's entries
 xfsns resolve IMAGE MANIFEST PATH: the inode that a path leads to
+xfsns parents IMAGE MANIFEST INO: the entries that name an inode
 ";
 
 /// What the words ask for.
@@ -21,6 +23,8 @@ pub enum Words {
     List { ino: u64 },
     /// `resolve IMAGE MANIFEST PATH`, the path unescaped.
     Resolve { path: Bytes },
+    /// `parents IMAGE MANIFEST INO`
+    Parents { ino: u64 },
 }
 
 /// Why words were not read.
@@ -84,6 +88,23 @@ fn is_word(word: &String) -> bool
     }
 }
 
+/// Reads the word of an inode.
+fn read_ino(word: &str) -> Result<u64, WordsFault>
+    ensures ok { IfOk result (λ ino. word.now ≡ decimal ino) }
+    ensures err { IfErr result (λ fault. fault ≡ Usage → (ino : ℕ) → ino < 2 ^ 64 → word.now ≢ decimal ino) }
+{
+    read_decimal(word).ok_or(WordsFault::Usage)
+}
+
+/// Reads the word of a path.
+fn read_path(alloc: Global, word: &str) -> Result<Bytes, WordsFault>
+    ensures text { IfOk result (λ path. word.now ≡ escaped path) }
+    ensures bytes { IfOk result (All (λ byte. byte < 256)) }
+    ensures err { IfErr result (λ fault. fault ≡ Usage → (path : List ℕ) → All (λ byte. byte < 256) path → word.now ≢ escaped path) }
+{
+    Ok(Bytes::new(unescape(alloc, word.as_bytes())?))
+}
+
 /// Compares a command and the words after it with the forms.
 fn read_arguments(alloc: Global, command: &str, rest: &[&str]) -> Result<Words, WordsFault>
     requires { All (λ word. IsWord word.now) rest.now }
@@ -94,11 +115,15 @@ fn read_arguments(alloc: Global, command: &str, rest: &[&str]) -> Result<Words, 
         return Err(WordsFault::Usage);
     };
     if command == "list" {
-        let ino = read_decimal(last).ok_or(WordsFault::Usage)?;
+        let ino = read_ino(last)?;
         return Ok(Words::List { ino });
     }
+    if command == "parents" {
+        let ino = read_ino(last)?;
+        return Ok(Words::Parents { ino });
+    }
     if command == "resolve" {
-        let path = Bytes::new(unescape(alloc, last.as_bytes())?);
+        let path = read_path(alloc, last)?;
         return Ok(Words::Resolve { path });
     }
     Err(WordsFault::Usage)
