@@ -1,23 +1,24 @@
 -- From a command's result to the answer over the image, and from the words that were read to any that they are.
-use Rattle.std.proofs.Common.{◌≡◌, ℕ, ◌+◌, ◌*◌, ◌≤◌, List, length, codes, Option, Some, None, inl, inr, ap, subst, arith}
-use Rattle.std.specs.Prelude.{IfSome, decimal}
+use Rattle.std.proofs.Common.{◌≡◌, ◌≢◌, ℕ, ◌+◌, ◌*◌, ◌≤◌, List, length, codes, Option, Some, None, inl, inr, ap, subst, arith}
+use Rattle.std.specs.Prelude.{IfSome, decimal, slice_index}
 use Rattle.std.proofs.lemmas.Fmt.{decimal_injective}
 use Rattle.xn_bytes.specs.declared.status.Status.{Status}
 use Rattle.xn_bytes.specs.Escapes.{escaped}
 use Rattle.xn_bytes.specs.Superblock.{Geometry}
-use Rattle.xn_bytes.specs.Words.{AsksList, AsksResolve, AsksNothing}
+use Rattle.xn_bytes.specs.Words.{AsksOf, AsksList, AsksResolve, AsksParents, AsksNothing}
 use Rattle.xn_bytes.specs.Paths.{parts_of}
 use Rattle.xn_bytes.specs.NameSpace.{End}
 use Rattle.xn_bytes.specs.Outcome.{Answers, Reads, geometry_in}
 use Rattle.xn_bytes.specs.Inode.{inode_of}
 use Rattle.xn_bytes.specs.Reading.{IsAttached}
 use Rattle.xn_bytes.specs.Costs.{list_cost}
+use Rattle.xn_attr.specs.Costs.{list_most}
 use Rattle.xn_bytes.proofs.EscapeLemmas.{one_text}
 use Rattle.xn_text.specs.declared.words.Words.{Words}
 use Rattle.xn_text.specs.declared.words.Words.TheVariants as commands
 use Rattle.xn_text.specs.Asked.{AsksFor}
 use Rattle.xfsns.specs.Home.{FindsSuper}
-use Rattle.xfsns.specs.Answer.{EndsWith, IsAnswerTo, ReadsFor, ReadsAtMost, ListReads, RefusedReads, ResolveReads}
+use Rattle.xfsns.specs.Answer.{EndsWith, IsAnswerTo, ReadsFor, ReadsAtMost, ListReads, RefusedReads, ResolveReads, ParentsReads}
 
 -- the answer to an end that a command has over the image whose superblock was found
 pub over_image : (E : Geometry → List ℕ → End → Type 0) (image : Option (List ℕ)) (g : Geometry) (ended : Option End) (status : Status) (text : List ℕ)
@@ -31,15 +32,34 @@ over_image E (Some x) g (Some end) status text found ends answer =
 pub answers_words : (words : List (List ℕ)) (command : Words) (image : Option (List ℕ)) (status : Status) (text : List ℕ)
     → AsksFor words command → Reads (EndsWith command) image status text → Answers words image status text
 answers_words words (commands.List ino) image status text asks reads = inr (inl (ino, asks, reads))
-answers_words words (commands.Resolve path) image status text asks reads = inr (inr (path, asks, reads))
+answers_words words (commands.Resolve path) image status text asks reads = inr (inr (inl (path, asks, reads)))
+answers_words words (commands.Parents ino) image status text asks reads = inr (inr (inr (ino, asks, reads)))
 
 -- ---- words are of one form
 
-not_both : (words : List (List ℕ)) (ino : ℕ) (path : List ℕ) → AsksList words ino → AsksResolve words path → ⊥
-not_both words ino path list walk =
-    let list_form = list.form in
+not_both : (command : List ℕ) (words : List (List ℕ)) (ino : ℕ) (path : List ℕ) → command ≢ codes "resolve" → AsksOf command words ino → AsksResolve words path → ⊥
+not_both command words ino path other of walk =
+    let of_form = of.form in
     let walk_form = walk.form in
-    let same : codes "list" ≡ codes "resolve" = cc in
+    let same : command ≡ codes "resolve" = cc in
+    other same
+
+list_no_path : codes "list" ≢ codes "resolve"
+list_no_path = λ same. omega (arith, ap length same)
+
+parents_no_path : codes "parents" ≢ codes "resolve"
+parents_no_path = λ same. let first = ap (λ (text : List ℕ). slice_index text 0) same in omega (arith, first)
+
+one_command : (command other : List ℕ) (words : List (List ℕ)) (ino number : ℕ) → AsksOf command words ino → AsksOf other words number → command ≡ other
+one_command command other words ino number a b =
+    let form = a.form in
+    let form_too = b.form in
+    let same : command ≡ other = cc in
+    same
+
+not_list_and_parents : (words : List (List ℕ)) (ino other : ℕ) → AsksList words ino → AsksParents words other → ⊥
+not_list_and_parents words ino other list parents =
+    let same : codes "list" ≡ codes "parents" = one_command _ _ words ino other list parents in
     omega (arith, ap length same)
 
 one_path : (words : List (List ℕ)) (path other : List ℕ) → AsksResolve words path → AsksResolve words other → path ≡ other
@@ -49,8 +69,8 @@ one_path words path other a b =
     let same : escaped path ≡ escaped other = cc in
     one_text path other a.bytes b.bytes same
 
-one_number : (words : List (List ℕ)) (ino other : ℕ) → AsksList words ino → AsksList words other → ino ≡ other
-one_number words ino other a b =
+one_number : (command : List ℕ) (words : List (List ℕ)) (ino other : ℕ) → AsksOf command words ino → AsksOf command words other → ino ≡ other
+one_number command words ino other a b =
     let form = a.form in
     let form_too = b.form in
     let same : decimal ino ≡ decimal other = cc in
@@ -59,6 +79,7 @@ one_number words ino other a b =
 pub asks_something : (words : List (List ℕ)) (command : Words) → AsksFor words command → AsksNothing words → ⊥
 asks_something words (commands.List ino) asks none = none.no_list ino asks
 asks_something words (commands.Resolve path) asks none = none.no_resolve path asks
+asks_something words (commands.Parents ino) asks none = none.no_parents ino asks
 
 -- ---- what is read
 
@@ -70,6 +91,7 @@ walk_later extra first between now one few = omega (arith, one, few)
 
 later : (command : Words) (g : Geometry) (x : List ℕ) (first between now : ℕ) → between ≤ first + 1 → ReadsAtMost command g x between now → ReadsAtMost command g x (first + 1) now
 later (commands.List ino) g x first between now one few = (list_later (list_cost (inode_of g x ino)) first between now one few.0, λ other. let once = few.1 other in omega (arith, one, once))
+later (commands.Parents ino) g x first between now one few = walk_later (list_most (inode_of g x ino)) first between now one few
 later (commands.Resolve path) g x first between now one few = λ most bound. walk_later ((1 + most) * length (parts_of path)) first between now one (few most bound)
 
 -- what a command reads over the image whose superblock was found
@@ -100,12 +122,20 @@ asked_list g (Some x) ino before now few refused = (few, refused)
 pub reads_for : (words : List (List ℕ)) (command : Words) (image : Option (List ℕ)) (before now : ℕ)
     → AsksFor words command → IfSome image (λ x. ReadsAtMost command (geometry_in x) x (before + 1) now) → ReadsFor words image before now
 reads_for words (commands.List ino) image before now asks few = record {
-  list = λ other also. subst (λ (n : ℕ). ListReads image n before now) (one_number words ino other asks also) (list_reads image ino before now few);
-  refused = λ other also. subst (λ (n : ℕ). RefusedReads image n before now) (one_number words ino other asks also) (refused_reads image ino before now few);
-  resolve = λ path also. absurd (not_both words ino path asks also);
+  list = λ other also. subst (λ (n : ℕ). ListReads image n before now) (one_number (codes "list") words ino other asks also) (list_reads image ino before now few);
+  refused = λ other also. subst (λ (n : ℕ). RefusedReads image n before now) (one_number (codes "list") words ino other asks also) (refused_reads image ino before now few);
+  resolve = λ path also. absurd (not_both (codes "list") words ino path list_no_path asks also);
+  parents = λ other also. absurd (not_list_and_parents words ino other asks also);
 }
 reads_for words (commands.Resolve path) image before now asks few = record {
-  list = λ ino also. absurd (not_both words ino path also asks);
-  refused = λ ino also. absurd (not_both words ino path also asks);
+  list = λ ino also. absurd (not_both (codes "list") words ino path list_no_path also asks);
+  refused = λ ino also. absurd (not_both (codes "list") words ino path list_no_path also asks);
   resolve = λ other also. subst (λ (p : List ℕ). ResolveReads image p before now) (one_path words path other asks also) few;
+  parents = λ ino also. absurd (not_both (codes "parents") words ino path parents_no_path also asks);
+}
+reads_for words (commands.Parents ino) image before now asks few = record {
+  list = λ other also. absurd (not_list_and_parents words other ino also asks);
+  refused = λ other also. absurd (not_list_and_parents words other ino also asks);
+  resolve = λ path also. absurd (not_both (codes "parents") words ino path parents_no_path asks also);
+  parents = λ other also. subst (λ (n : ℕ). ParentsReads image n before now) (one_number (codes "parents") words ino other asks also) few;
 }

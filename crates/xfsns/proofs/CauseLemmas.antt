@@ -21,7 +21,8 @@ cause_of_answer before between now ended later cause read = let rose = IfErr-at_
 
 asks_to_read : (words : List (List ℕ)) (command : Words) → AsksFor words command → AsksToRead words
 asks_to_read words (commands.List ino) asks = inl (ino, asks)
-asks_to_read words (commands.Resolve path) asks = inr (path, asks)
+asks_to_read words (commands.Resolve path) asks = inr (inl (path, asks))
+asks_to_read words (commands.Parents ino) asks = inr (inr (ino, asks))
 
 -- the words ask to read, as the command does that was read from them
 pub cause_for_words : (words : List (List ℕ)) (command : Words) (before now : ℕ) (fault : Fault) → AsksFor words command → (fault ≡ faults.Read → Rose before now) → HasReadCause words before now fault

@@ -5,7 +5,7 @@ use Rattle.xn_bytes.specs.declared.status.Status.{Status}
 use Rattle.xn_bytes.specs.declared.status.Status.TheVariants.{Done, Usage, Image, ReadFault, SayFault, Memory}
 use Rattle.xn_bytes.specs.Causes.{Rose}
 use Rattle.xn_bytes.specs.NameSpace.{End, Says, Breaks}
-use Rattle.xn_bytes.specs.Reading.{ListEnds, ResolveEnds}
+use Rattle.xn_bytes.specs.Reading.{ListEnds, ResolveEnds, ParentsEnd}
 use Rattle.xn_bytes.specs.Outcome.{Answers, Reads, end_status, Outside, Tells, Outcome, FailsToSay}
 use Rattle.xn_bytes.specs.Superblock.{Geometry}
 use Rattle.xn_machine.specs.Device.{TellsFront}
@@ -34,7 +34,8 @@ is_answered : (words : List (List ℕ)) (image : Option (List ℕ)) (status : St
 is_answered words image status text answer = elim answer [
   | inl usage ↦ subst IsAnswered (sym usage.is_usage) tt
   | inr (inl list) ↦ reads_answered (λ g. ListEnds g list.0) image status text list.2
-  | inr (inr walk) ↦ reads_answered (λ g. ResolveEnds g walk.0) image status text walk.2
+  | inr (inr (inl walk)) ↦ reads_answered (λ g. ResolveEnds g walk.0) image status text walk.2
+  | inr (inr (inr parents)) ↦ reads_answered (λ g. ParentsEnd g parents.0) image status text parents.2
 ]
 
 -- ---- what is told

@@ -12,7 +12,7 @@ ghost use Rattle.xfsns.specs.Home.{FindsSuper, home_view};
 use std::alloc::Global;
 use xn_inode::{Store, Super};
 use xn_machine::{Failed, Machine};
-use xn_ns::{SeeFault, list, resolve};
+use xn_ns::{SeeFault, list, parents, resolve};
 use xn_replay::{Seen, View};
 use xn_text::{Reply, Words};
 
@@ -63,5 +63,6 @@ fn ask<S: Store>(alloc: Global, store: &mut S, command: &Words) -> Result<Reply,
     match command {
         Words::List { ino } => list(alloc, store, *ino),
         Words::Resolve { path } => resolve(alloc, store, path.as_slice()),
+        Words::Parents { ino } => parents(alloc, store, *ino),
     }
 }

@@ -6,8 +6,9 @@ ghost use Rattle.xn_bytes.specs.Paths.{parts_of};
 ghost use Rattle.xn_bytes.specs.Inode.{inode_of};
 ghost use Rattle.xn_bytes.specs.Reading.{IsAttached};
 ghost use Rattle.xn_bytes.specs.Costs.{list_cost};
+ghost use Rattle.xn_attr.specs.Costs.{list_most};
 ghost use Rattle.xn_ns.specs.Costs.{CostsAtMost};
-ghost use Rattle.xn_bytes.specs.Words.{AsksList, AsksResolve, AsksNothing};
+ghost use Rattle.xn_bytes.specs.Words.{AsksList, AsksResolve, AsksParents, AsksNothing};
 ghost use Rattle.xfsns.specs.Top.{TellsOrFails};
 
 use crate::answer::{Answer, Fault, answer_words};
@@ -18,8 +19,8 @@ use xn_machine::{Machine, Source};
 /// Answers the words after the program's name over the machine's image, and tells the answer on its output.
 ///
 /// `list IMAGE MANIFEST INO` lists a directory in any of its forms. `resolve IMAGE MANIFEST PATH` walks a path from the
-/// root and tells the inode to which it leads. The two files are the machine's and the manifest's; neither the manifest nor
-/// the script is read.
+/// root and tells the inode to which it leads. `parents IMAGE MANIFEST INO` tells the entries that name an inode, by its parent
+/// records. The two files are the machine's and the manifest's; neither the manifest nor the script is read.
 pub fn xfsns<M: Machine, F: Source, S: Source>(
     alloc: Global,
     words: &[String],
@@ -43,10 +44,11 @@ pub fn xfsns<M: Machine, F: Source, S: Source>(
 
     // Whatever the status is, a list reads the superblock, the inode twice, and the directory's blocks once each at most, and of
     // what is no attached directory the inode once; a path the superblock and, for each part, the inode and what a look-up
-    // costs.
+    // costs; parents the superblock, the inode, and each mapped block of its attribute fork once at most.
     ensures reads_list { (ino : ℕ) → AsksList (map string_bytes words.now) ino → IfSome (M.image machine.old) (λ x. M.reads machine.new ≤ M.reads machine.old + 2 + list_cost (inode_of (geometry_in x) x ino)) }
     ensures reads_refused { (ino : ℕ) → AsksList (map string_bytes words.now) ino → IfSome (M.image machine.old) (λ x. ¬ IsAttached (geometry_in x) (inode_of (geometry_in x) x ino) ino → M.reads machine.new ≤ M.reads machine.old + 2) }
     ensures reads_resolve { (path : List ℕ) → AsksResolve (map string_bytes words.now) path → IfSome (M.image machine.old) (λ x. (most : ℕ) → CostsAtMost (geometry_in x) x path most → M.reads machine.new ≤ M.reads machine.old + 1 + (1 + most) * length (parts_of path)) }
+    ensures reads_parents { (ino : ℕ) → AsksParents (map string_bytes words.now) ino → IfSome (M.image machine.old) (λ x. M.reads machine.new ≤ M.reads machine.old + 1 + list_most (inode_of (geometry_in x) x ino)) }
     ensures reads_nothing { AsksNothing (map string_bytes words.now) → M.reads machine.new ≡ M.reads machine.old }
 
     // The sources are not read.

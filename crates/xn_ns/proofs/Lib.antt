@@ -7,3 +7,4 @@ pub mod PathParts
 pub mod PartsTaken
 pub mod WalksOn
 pub mod Fetches
+pub mod ParentEnds

@@ -44,16 +44,16 @@ impl<T: Drop> From<AllocFailed<T>> for SeeFault {
     }
 }
 
-/// A fault of a directory, as one of the command that looked at it.
-pub(crate) fn of_directory(fault: ForkFault, dir: u64) -> SeeFault
-    ensures { result ≡ see_fault_in dir fault }
+/// A fault of an inode's fork, as one of the command that looked at it.
+pub(crate) fn of_inode(fault: ForkFault, ino: u64) -> SeeFault
+    ensures { result ≡ see_fault_in ino fault }
 {
     match fault {
         ForkFault::Read => SeeFault::Read,
         ForkFault::Memory => SeeFault::Memory,
         ForkFault::Broken { rule, block } => SeeFault::Broken {
             rule,
-            inode: dir,
+            inode: ino,
             block,
         },
     }

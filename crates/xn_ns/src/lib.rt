@@ -1,9 +1,10 @@
-//! The commands that read names, over a store: the list of a directory, and the walk of a path.
+//! The commands that read names, over a store: the list of a directory, the walk of a path, and the parents of an inode.
 #![tactic(auto)]
 
 mod fault;
 mod law;
 mod listing;
+mod parent_list;
 mod parts;
 mod sight;
 mod walk;
@@ -11,4 +12,5 @@ mod walk;
 pub use fault::SeeFault;
 pub use law::{lists_are_those_of_the_map, replies_are_those_of_the_map};
 pub use listing::list;
+pub use parent_list::parents;
 pub use walk::resolve;

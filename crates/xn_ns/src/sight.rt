@@ -45,7 +45,7 @@ pub(crate) fn look_at<S: Store>(store: &mut S, ino: u64) -> Result<Sight, StoreF
 }
 
 /// Whether an inode may be live: in range, and none of the superblock's own.
-fn is_live(geometry: &Super, ino: u64) -> bool
+pub(crate) fn is_live(geometry: &Super, ino: u64) -> bool
     ensures { IsTrue result ↔ IsLive geometry.now ino }
 {
     geometry.is_inode(ino) && !geometry.own_inode(ino)
@@ -56,17 +56,13 @@ fn sight_of(geometry: &Super, ino: u64, inode: &[u8]) -> Sight
     requires live { IsLive geometry.now ino }
     ensures { IsSightOf geometry.now inode.now ino result }
 {
-    let core = match Core::read(inode, ino, geometry.meta_uuid()) {
+    let core = match Core::of_inode(geometry, ino, inode) {
         Ok(core) => core,
         Err(fault) => return Sight::Broken { rule: fault.rule },
     };
-    let is_root = ino == geometry.root();
-    if !is_root && core.forkoff() == 0 {
-        return Sight::Broken { rule: 11 };
-    }
     if core.kind() != Kind::Dir {
         Sight::Other
-    } else if is_root || core.nlink() != 0 {
+    } else if ino == geometry.root() || core.nlink() != 0 {
         Sight::Attached
     } else {
         Sight::Detached

@@ -12,7 +12,7 @@ ghost use Rattle.xn_ns.specs.Costs.{CostsAtMost, LookUpCostsAtMost, StepCostsAtM
 ghost use Rattle.xn_ns.specs.Ends.{Answered};
 ghost use Rattle.xn_ns.specs.Steps.{IsTaken, place_of};
 
-use crate::fault::{SeeFault, of_directory};
+use crate::fault::{SeeFault, of_inode};
 use crate::parts::first_part;
 use crate::sight::{Sight, look_at};
 use std::alloc::Global;
@@ -114,7 +114,7 @@ fn take_part_in<S: Store>(
             kind: entry.kind,
         })),
         Ok(None) => Ok(Step::Refused(Errno::ENOENT)),
-        Err(fault) => Err(of_directory(fault, dir)),
+        Err(fault) => Err(of_inode(fault, dir)),
     }
 }
 

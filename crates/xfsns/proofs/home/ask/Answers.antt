@@ -10,3 +10,6 @@ pub returns-in-Resolve-clause-fetches : goal.returns-in-Resolve-clause-fetches
 returns-in-Resolve-clause-fetches g c =
     let fetched = rw c.as_slice.ensures at c.resolve.ensures.fetches in
     rw c.in-Resolve.is fetched
+
+pub returns-in-Parents-clause-fetches : goal.returns-in-Parents-clause-fetches
+returns-in-Parents-clause-fetches g c = rw c.in-Parents.is c.parents.ensures.fetches

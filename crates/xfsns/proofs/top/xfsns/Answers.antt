@@ -14,3 +14,6 @@ returns-in-Ok-clause-reads_refused g c = λ ino asks. rw c.tell.ensures.reads (c
 
 pub returns-in-Ok-clause-reads_resolve : goal.returns-in-Ok-clause-reads_resolve
 returns-in-Ok-clause-reads_resolve g c = λ path asks. rw c.tell.ensures.reads (c.in-Ok.ensures.reads.resolve path asks)
+
+pub returns-in-Ok-clause-reads_parents : goal.returns-in-Ok-clause-reads_parents
+returns-in-Ok-clause-reads_parents g c = λ ino asks. rw c.tell.ensures.reads (c.in-Ok.ensures.reads.parents ino asks)

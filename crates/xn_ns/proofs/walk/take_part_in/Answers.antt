@@ -31,7 +31,7 @@ returns-in-Ok-None-clause-fetches g c =
 
 pub returns-clause-taken : goal.returns-clause-taken
 returns-clause-taken g c =
-    rw c.of_directory.ensures
+    rw c.of_inode.ensures
     (look_up_fails (g.S.Store.shape c.args.store.now) (g.S.Store.image c.args.store.now) c.args.dir c.args.part.now _ _ c.in-Err-lookup.fault c.in-Ok.ensures.1 c.in-Err-lookup.ensures.fault)
 
 pub returns-clause-fetches : goal.returns-clause-fetches
