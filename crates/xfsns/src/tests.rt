@@ -1,10 +1,12 @@
 //! Tests of the program's one call, over machines in memory and over a file. Their tables are read as `xn_rows` says.
 
+mod attributes;
 mod directories;
 mod edge;
 mod forks;
 mod lists;
 mod outside;
+mod parents;
 mod paths;
 mod trees;
 mod words;

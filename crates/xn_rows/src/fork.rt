@@ -1,4 +1,4 @@
-//! The data fork of a root in leaf or node form: which blocks it has.
+//! The data fork of a root in leaf or node form, and the attribute fork of an inode: which blocks it has.
 
 use crate::RowFault;
 use crate::pieces::Piece;
@@ -14,6 +14,9 @@ pub struct Start {
     /// Whether blocks side by side have one extent.
     are_joined: bool,
 }
+
+/// The format of a fork that holds a list of extents.
+const EXTENTS: u8 = 2;
 
 /// Data block 0.
 pub const DATA: Start = Start {
@@ -63,6 +66,14 @@ pub const FREE: Start = Start {
     are_joined: false,
 };
 
+/// The root of an attribute fork, and the leaves below it.
+pub const ATTRIBUTES: Start = Start {
+    file_block: 0,
+    block: 24,
+    room: 16,
+    are_joined: true,
+};
+
 /// The block behind those for which there is room.
 pub const END: u32 = 3072;
 
@@ -88,7 +99,7 @@ impl Start {
     }
 }
 
-/// The extents of a root.
+/// The extents of a fork.
 #[derive(Debug, Drop)]
 pub struct Fork {
     extents: Vec<Extent>,
@@ -144,6 +155,21 @@ impl Fork {
         inode.put(image, 64, &self.blocks.to_be_bytes())?;
         inode.put(image, 76, &count.to_be_bytes())?;
         inode.put(image, 176, &records)
+    }
+
+    /// Has the attribute fork of an inode have these extents.
+    pub fn put_attributes(
+        &self,
+        alloc: Global,
+        image: &mut [u8],
+        owner: u32,
+    ) -> Result<(), RowFault> {
+        let records = self.records(alloc)?;
+        let count = u16::try_from(self.extents.len())?;
+        let inode = Piece::inode(owner);
+        inode.put(image, 80, &count.to_be_bytes())?;
+        inode.put(image, 83, &[EXTENTS])?;
+        inode.put(image, 176 + DATA_FORK, &records)
     }
 
     /// The extents as they stand on the device.

@@ -1,4 +1,4 @@
-//! Leaves and nodes of a root in leaf or node form, laid out.
+//! Leaves and nodes of a root in leaf or node form, laid out; nodes of attribute forks too.
 
 use crate::RowFault;
 use crate::filled::fill_leaf;
@@ -13,7 +13,7 @@ const SINGLE_LEAF: u16 = 0x3df1;
 
 const LEAF: u16 = 0x3dff;
 
-const NODE: u16 = 0x3ebe;
+pub const NODE: u16 = 0x3ebe;
 
 /// Puts the single leaf of leaf form, with these bests behind the leaf entries.
 pub fn put_single_leaf(
@@ -47,7 +47,7 @@ pub fn put_tree(
     }
     let children = put_leaves(alloc, image, fork, start, leaves, most)?;
     link(image, start, &children)?;
-    let header = header(root, NODE, children.len().try_into()?, 1);
+    let header = header(ROOT, root, NODE, children.len().try_into()?, 1);
     put_hashed(alloc, image, root, &header, &children)
 }
 
@@ -76,7 +76,7 @@ fn put_leaves(
 }
 
 /// Makes siblings of the leaves that a node's entries name.
-fn link(image: &mut [u8], start: Start, children: &[Leaf]) -> Result<(), RowFault> {
+pub fn link(image: &mut [u8], start: Start, children: &[Leaf]) -> Result<(), RowFault> {
     for (left, right) in children.iter().zip(children.iter().skip(1)) {
         let (from, to) = (start.block_of(left.address), start.block_of(right.address));
         Piece::hashed(from).put(image, 0, &right.address.to_be_bytes())?;
@@ -94,7 +94,13 @@ fn put_leaf(
     leaves: &[Leaf],
 ) -> Result<(), RowFault> {
     let stale = leaves.iter().filter(|leaf| leaf.address == 0).count();
-    let header = header(block, magic, leaves.len().try_into()?, stale.try_into()?);
+    let header = header(
+        ROOT,
+        block,
+        magic,
+        leaves.len().try_into()?,
+        stale.try_into()?,
+    );
     if magic == LEAF && stale == 0 {
         let bytes = fill_leaf(alloc, &header, leaves)?;
         Piece::hashed(block).put(image, 0, &bytes)
@@ -104,7 +110,7 @@ fn put_leaf(
 }
 
 /// Puts a leaf or a node: its header, and its entries.
-fn put_hashed(
+pub fn put_hashed(
     alloc: Global,
     image: &mut [u8],
     block: u32,
@@ -116,14 +122,14 @@ fn put_hashed(
     Piece::hashed(block).put(image, 0, &bytes)
 }
 
-/// The header of a block without siblings, but for its checksum. Behind the count of entries a leaf has that of stale ones,
+/// The header of an inode's block without siblings, but for its checksum. Behind the count of entries a leaf has that of stale ones,
 /// and a node its level.
-fn header(block: u32, magic: u16, count: u16, behind: u16) -> [u8; 64] {
+pub fn header(owner: u64, block: u32, magic: u16, count: u16, behind: u16) -> [u8; 64] {
     let mut header = [0; 64];
     put_u16(&mut header, 8, magic);
     put_u64(&mut header, 16, 8 * u64::from(block));
     header[32..48].copy_from_slice(&UUID);
-    put_u64(&mut header, 48, ROOT);
+    put_u64(&mut header, 48, owner);
     put_u16(&mut header, 56, count);
     put_u16(&mut header, 58, behind);
     header

@@ -3,6 +3,7 @@
 ghost use Rattle.std.specs.Prelude.{◌≡◌, ◌+◌, ◌*◌, ◌%◌, ◌≤◌, length, IfOk};
 
 use crate::RowFault;
+use crate::attributes::put_attributes;
 use crate::full::put_full;
 use crate::pieces::{Piece, SECTOR, put, put_file};
 use crate::spelling::bytes;
@@ -187,6 +188,7 @@ fn change_whole(alloc: Global, image: &mut Vec<u8>, word: &str) -> Result<bool, 
     match word.split_once(':') {
         Some(("dir", spelled)) => put_directory(alloc, image, spelled)?,
         Some(("file", number)) => put_file(image, number.parse()?)?,
+        Some(("attributes", spelled)) => put_attributes(alloc, image, spelled)?,
         Some(("sectors", count)) => image.truncate(SECTOR * count.parse::<u32>()? as usize),
         Some(("fails", _)) => {}
         _ => return Ok(false),

@@ -38,6 +38,7 @@
 //! |---|---|
 //! | `dir:NUMBER:LINKS:BYTES` | puts the inode of a directory in short form with so many links, and these bytes in its data fork |
 //! | `file:NUMBER` | puts the inode of an empty regular file |
+//! | `attributes:NUMBER:COUNT:LIST` | puts the attribute fork of an inode in blocks, with at most so many attributes in a leaf |
 //! | `super` | from here on places are those of the superblock |
 //! | `inode:NUMBER` | from here on places are those of this inode |
 //! | `data:BLOCK` | from here on places are those of this block, one of directory entries |
@@ -48,10 +49,16 @@
 //! | `sectors:COUNT` | cuts the image to so many sectors |
 //! | `fails:CALL` | nothing: the device's call of this number fails, counted from 1 |
 //!
+//! LIST has attributes parted by `,`, each of which is FLAGS`/`NAME`/`VALUE: the flags as a decimal number, without the bit that
+//! says where the value stands, and name and value as BYTES. Where the value has blocks of its own VALUE is BLOCK`/`LENGTH, two
+//! decimal numbers. `twenty` is the LIST of twenty parent records and of an attribute with a value elsewhere. The one leaf, or
+//! the root of the tree, is block 24, and the leaves below it are the blocks from 25 on; one extent maps all of them.
+//!
 //! **The answer** is the exit status, and the lines that are told, parted by ` / `.
 #![tactic(auto)]
 
 mod area;
+mod attributes;
 mod fault;
 mod filled;
 mod fork;

@@ -4,9 +4,12 @@
 use std::alloc::Global;
 use std::test::Fail;
 use xn_bytes::{Errno, Kind, Name};
-use xn_text::{Lines, ListLine, Reply, Words, WordsFault, image_line, usage_line};
+use xn_text::{
+    Lines, ListLine, ParentLine, ParentLines, Reply, Words, WordsFault, image_line, usage_line,
+};
 
-/// Words, in which `{}` is nothing and `{_}` a space, and what they are read as: `usage`, a list's number, or a path's bytes.
+/// Words, in which `{}` is nothing and `{_}` a space, and what they are read as: `usage`, the number of a list or of parents, or a path's
+/// bytes.
 const WORDS: &str = r"
 | usage
 list | usage
@@ -34,10 +37,29 @@ resolve IMAGE MANIFEST a\5C | usage
 resolve IMAGE MANIFEST a\ | usage
 resolve IMAGE MANIFEST a\2fb | usage
 resolve IMAGE MANIFEST a{_}b | usage
+parents | usage
+parent IMAGE MANIFEST 128 | usage
+Parents IMAGE MANIFEST 128 | usage
+parents IMAGE MANIFEST | usage
+parents IMAGE MANIFEST 128 128 | usage
+parents -- IMAGE MANIFEST 128 | usage
+parents {} MANIFEST 128 | usage
+parents IMAGE -MANIFEST 128 | usage
+parents IMAGE MANIFEST {} | usage
+parents IMAGE MANIFEST /a | usage
+parents IMAGE MANIFEST 0128 | usage
+parents IMAGE MANIFEST +128 | usage
+parents IMAGE MANIFEST 128{_} | usage
+parents IMAGE MANIFEST 18446744073709551616 | usage
 
 list IMAGE MANIFEST 0 | list 0
 list IMAGE MANIFEST 128 | list 128
 list IMAGE MANIFEST 18446744073709551615 | list 18446744073709551615
+
+parents IMAGE MANIFEST 0 | parents 0
+parents IMAGE MANIFEST 128 | parents 128
+parents list resolve 131 | parents 131
+parents IMAGE MANIFEST 18446744073709551615 | parents 18446744073709551615
 
 resolve IMAGE MANIFEST / | [47]
 resolve IMAGE MANIFEST // | [47, 47]
@@ -59,6 +81,16 @@ EFBIG | > error 27 EFBIG
 ENOSPC | > error 28 ENOSPC
 ENAMETOOLONG | > error 36 ENAMETOOLONG
 ENOTEMPTY | > error 39 ENOTEMPTY
+";
+
+/// A directory, its generation and the bytes of a name, and the line that tells them.
+const PARENTS: &str = r"
+128 1 97 | 128 1 a
+0 0 102 48 52 50 | 0 0 f042
+4294967428 4294967295 98 32 | 4294967428 4294967295 b\20
+18446744073709551615 305419896 96 193 255 | 18446744073709551615 305419896 `\c1\ff
+131 7 92 33 126 127 | 131 7 \5c!~\7f
+131 7 195 169 10 1 | 131 7 \c3\a9\0a\01
 ";
 
 const ERRNOS: [Errno; 11] = [
@@ -96,6 +128,7 @@ fn told(alloc: Global, line: &str) -> Result<(String, &str), Fail> {
     }
     let told = match Words::read(alloc, &words) {
         Ok(Words::List { ino }) => format!(in alloc; "list {ino}")?,
+        Ok(Words::Parents { ino }) => format!(in alloc; "parents {ino}")?,
         Ok(Words::Resolve { path }) => format!(in alloc; "{:?}", path.as_slice())?,
         Err(WordsFault::Usage) => String::from_str(alloc, "usage")?,
         Err(WordsFault::Memory) => return Err(Fail::from("there is memory")),
@@ -147,6 +180,40 @@ fn replies(rt: HostRuntime) -> Result<(), Fail> {
         text_of(alloc, &list)?.as_str(),
         "> ok 2\n131 reg a\n4294967428 dir b\\20\n"
     );
+    Ok(())
+}
+
+/// The parent that a row spells.
+fn parent_of(alloc: Global, spelled: &str) -> Result<ParentLine, Fail> {
+    let mut words = spelled.split_whitespace();
+    let dir = words.next().ok_or("directory")?;
+    let generation = words.next().ok_or("generation")?;
+    let mut bytes = Vec::new(alloc);
+    for word in words {
+        bytes.push(word.parse().ok().ok_or("a byte")?)?;
+    }
+    Ok(ParentLine {
+        dir: dir.parse().ok().ok_or("a directory's number")?,
+        generation: generation.parse().ok().ok_or("a generation")?,
+        name: Name::read(alloc, &bytes).ok().ok_or("it is a name")?,
+    })
+}
+
+#[test]
+fn parents(rt: HostRuntime) -> Result<(), Fail> {
+    let alloc = rt.alloc();
+    let mut lines = Vec::new(alloc);
+    let mut wanted = String::from_str(alloc, "> ok 6\n")?;
+    for row in PARENTS.lines().skip(1) {
+        let (spelled, told) = row.split_once(" | ").ok_or("a line")?;
+        lines.push(parent_of(alloc, spelled)?)?;
+        wanted.push_str(told)?;
+        wanted.push('\n')?;
+    }
+    let parents = Reply::Parents(ParentLines::new(lines));
+    let none = Reply::Parents(ParentLines::new(Vec::new(alloc)));
+    assert_eq!(rt; text_of(alloc, &parents)?, wanted);
+    assert_eq!(rt; text_of(alloc, &none)?.as_str(), "> ok 0\n");
     Ok(())
 }
 

@@ -5,7 +5,7 @@ ghost use Rattle.xn_bytes.specs.Superblock.{IsInode};
 ghost use Rattle.xn_bytes.specs.Trees.{AreBlocks};
 ghost use Rattle.xn_inode.specs.Frames.{StoreStays};
 
-use super::{Asked, check_rows};
+use super::{Asked, attributes, check_rows};
 use std::alloc::Global;
 use std::test::Fail;
 use xn_datree::{Fork, Tree};
@@ -46,19 +46,20 @@ pub(super) fn call<S: Store>(alloc: Global, store: &mut S, words: &[String]) -> 
     requires whole { S.IsWhole store.old }
     requires place { IsInode (S.shape store.old) ROOT }
 {
-    let fork = root_fork(alloc, store)?;
     match words {
         [word] if word.as_str() == "levels" => {
+            let fork = root_fork(alloc, store)?;
             let levels = Tree::<DirLeaf>::levels(alloc, store, &fork);
             Ok(format!(in alloc; "{levels:?}\n")?)
         }
         [word, hash, size] if word.as_str() == "fits" => {
+            let fork = root_fork(alloc, store)?;
             let hash = hash.parse::<u32>().ok().ok_or("a hash")?;
             let size = size.parse::<u64>().ok().ok_or("a size")?;
             let fits = Tree::<DirLeaf>::fits(alloc, store, &fork, hash, size);
             Ok(format!(in alloc; "{fits:?}\n")?)
         }
-        _ => Err(Fail::from("no such call")),
+        _ => attributes::call(alloc, store, words),
     }
 }
 

@@ -78,7 +78,7 @@ fn told(alloc: Global, line: &str) -> Result<(String, &str), Fail> {
 }
 
 /// The bytes that words of hexadecimal digits spell.
-fn bytes(alloc: Global, spelled: &str) -> Result<Vec<u8>, Fail> {
+pub(crate) fn bytes(alloc: Global, spelled: &str) -> Result<Vec<u8>, Fail> {
     let mut bytes = Vec::new(alloc);
     for word in spelled.split_whitespace() {
         if word.len() % 2 != 0 || word.len() > 16 {
