@@ -107,8 +107,9 @@ def table(path):
         sys.exit(1)
 
 
-match sys.argv[1:]:
-    case ["run", program, image, told]:
-        measure(program, image, told)
-    case ["table", path]:
-        table(path)
+if __name__ == "__main__":
+    match sys.argv[1:]:
+        case ["run", program, image, told]:
+            measure(program, image, told)
+        case ["table", path]:
+            table(path)

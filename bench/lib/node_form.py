@@ -183,4 +183,5 @@ def main(path, count, told):
         text.writelines(b"%d reg %s\n" % (ino, name) for name, ino in sorted((name, ino) for ino, name, _ in named))
 
 
-main(sys.argv[1], int(sys.argv[2]), sys.argv[3])
+if __name__ == "__main__":
+    main(sys.argv[1], int(sys.argv[2]), sys.argv[3])

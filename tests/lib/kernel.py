@@ -243,10 +243,11 @@ def check(read_path, image, program, manifest):
     print(f"{asked.asked} answers are those wanted")
 
 
-match sys.argv[1:]:
-    case ["fill", top]:
-        fill(os.fsencode(top))
-    case ["read", top]:
-        read(os.fsencode(top))
-    case ["check", read_path, image, program, manifest]:
-        check(read_path, image, program, manifest)
+if __name__ == "__main__":
+    match sys.argv[1:]:
+        case ["fill", top]:
+            fill(os.fsencode(top))
+        case ["read", top]:
+            read(os.fsencode(top))
+        case ["check", read_path, image, program, manifest]:
+            check(read_path, image, program, manifest)
