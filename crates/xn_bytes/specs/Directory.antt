@@ -7,13 +7,7 @@ use Rattle.std.specs.declared.cmp.Ordering.TheVariants.{Less}
 use Rattle.xn_bytes.specs.Numbers.{number_at}
 use Rattle.xn_bytes.specs.Names.{IsName}
 use Rattle.xn_bytes.specs.Entries.{Entry}
-use Rattle.xn_bytes.specs.Superblock.{Geometry, IsInode, IsOwnInode}
 use Rattle.xn_bytes.specs.Inode.{data_fork_of}
-
--- an inode that may be live: its place is in range, and it is none of the superblock's own
-pub record IsLive (g : Geometry) (ino : ℕ) : Type 0 where
-  pub place : IsInode g ino
-  pub not_own : ¬ IsOwnInode g ino
 
 -- rule 15 of a directory in short form: its size is within the data fork
 abbrev pub HasShortSize : List ℕ → Type 0

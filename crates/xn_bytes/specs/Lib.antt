@@ -20,13 +20,6 @@ pub mod DirectoryHolds
 pub mod DirectoryRules
 pub mod Costs
 pub mod Causes
-pub mod Errors
-pub mod Words
-pub mod Replies
-pub mod Paths
-pub mod NameSpace
-pub mod Reading
-pub mod Outcome
 pub mod Attributes
 pub mod ShortAttributes
 pub mod AttributeLeaves

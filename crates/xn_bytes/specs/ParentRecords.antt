@@ -71,3 +71,10 @@ IsBefore a b =
 pub record IsOrdered (records sorted : List ParentRecord) : Type 0 where
   pub same : IsPermutation records sorted
   pub rising : AllAdjacentBelow IsBefore sorted (length sorted)
+
+-- the parent records of an inode of which rules 10, 11, 13 and 24 to 26 hold, by directory, then by name
+pub record ListsParents (g : Geometry) (image : List ℕ) (ino : ℕ) (sorted : List ParentRecord) : Type 0 where
+  pub inode : HasOwnInode g (inode_of g image ino) ino
+  pub records : List ParentRecord
+  pub parents : IsParentsOf g image ino records
+  pub ordered : IsOrdered records sorted

@@ -1,11 +1,10 @@
-//! What every crate of the project speaks of: names, kinds, checksums, escapes, the numbers in disk structures and the
-//! statuses of the program. Its `specs/` hold the definitions that the contracts of all crates cite.
+//! What every crate of the project speaks of: names, kinds, checksums, escapes and the numbers in disk structures. Its `specs/`
+//! hold the definitions of the formats, which the contracts of all crates cite.
 #![tactic(auto)]
 
 mod attribute;
 mod bytes;
 mod checksum;
-mod errno;
 mod escaped_text;
 mod escapes;
 mod hash;
@@ -13,13 +12,11 @@ mod kind;
 mod memory;
 mod name;
 mod numbers;
-mod status;
 mod tables;
 
 pub use attribute::{Attribute, Value};
 pub use bytes::Bytes;
 pub use checksum::{Crc, checksum_of, has_checksum, put_checksum};
-pub use errno::Errno;
 pub use escaped_text::{EscapeFault, one_bad_place, unescape};
 pub use escapes::escape;
 pub use hash::{name_hash, parent_hash};
@@ -29,4 +26,3 @@ pub use name::{Name, NameFault, is_name};
 pub use numbers::{
     little_u32_at, put_little_u32, put_u16, put_u32, put_u64, u8_at, u16_at, u32_at, u64_at,
 };
-pub use status::Status;

@@ -4,7 +4,7 @@ ghost use Rattle.std.specs.Prelude.{◌+◌, ◌≤◌, ℕ, IfOk, IfErr, IfSome
 ghost use Rattle.xn_bytes.specs.AttributeRoom.{IsAttrCost};
 ghost use Rattle.xn_bytes.specs.Blocks.{block_of};
 ghost use Rattle.xn_bytes.specs.Inode.{inode_of};
-ghost use Rattle.xn_bytes.specs.Reading.{ListsParents};
+ghost use Rattle.xn_bytes.specs.ParentRecords.{ListsParents};
 ghost use Rattle.xn_bytes.specs.Superblock.{IsInode};
 ghost use Rattle.xn_inode.specs.Frames.{StoreStays};
 ghost use Rattle.xn_attr.specs.Costs.{list_most};

@@ -1,9 +1,9 @@
 -- What the program tells: the replies with their texts, and the lines that are no replies.
 use Rattle.std.specs.Prelude.{ℕ, List, [], ◌∷◌, ◌++◌, length, codes, decimal, flat_map}
 use Rattle.xn_bytes.specs.declared.kind.Kind.{Kind}
-use Rattle.xn_bytes.specs.declared.errno.Errno.{Errno}
+use Rattle.xn_meaning.specs.declared.errno.Errno.{Errno}
 use Rattle.xn_bytes.specs.Kinds.{kind_word}
-use Rattle.xn_bytes.specs.Errors.{error_number, error_word}
+use Rattle.xn_meaning.specs.Errors.{error_number, error_word}
 use Rattle.xn_bytes.specs.Escapes.{escaped}
 use Rattle.xn_bytes.specs.Entries.{Entry}
 use Rattle.xn_bytes.specs.Parents.{ParentRecord}
@@ -26,6 +26,10 @@ usage_line = codes "usage" ++ newline ∷ []
 abbrev pub image_line : ℕ → ℕ → ℕ → List ℕ
 image_line rule inode block =
     codes "image rule " ++ decimal rule ++ codes " inode " ++ decimal inode ++ codes " block " ++ decimal block ++ newline ∷ []
+
+-- the first line of a manifest that is outside its grammar
+abbrev pub manifest_line : ℕ → List ℕ
+manifest_line number = codes "manifest line " ++ decimal number ++ newline ∷ []
 
 -- ---- replies
 

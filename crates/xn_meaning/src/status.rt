@@ -1,5 +1,5 @@
 ghost use Rattle.std.specs.Prelude.{◌≡◌};
-ghost use Rattle.xn_bytes.specs.Outcome.{status_number};
+ghost use Rattle.xn_meaning.specs.Outcome.{status_number};
 
 /// How a run of the program ends.
 #[derive(Clone, Copy, Debug, PartialEq, Eq)]
@@ -10,12 +10,16 @@ pub enum Status {
     Usage,
     /// The image breaks a rule, which was told.
     Image,
-    /// A read of the image failed.
+    /// The manifest is outside its grammar; the first such line was told.
+    Manifest,
+    /// A read of the image or of the manifest failed.
     ReadFault,
     /// Telling failed.
     SayFault,
     /// Memory ran out.
     Memory,
+    /// The manifest has more bytes than a manifest may have.
+    Long,
 }
 
 impl Status {
@@ -27,9 +31,11 @@ impl Status {
             Status::Done => 0,
             Status::Usage => 1,
             Status::Image => 2,
+            Status::Manifest => 3,
             Status::ReadFault => 4,
             Status::SayFault => 6,
             Status::Memory => 7,
+            Status::Long => 9,
         }
     }
 }

@@ -1,7 +1,7 @@
 -- The errors that a reply can name, with Linux's numbers (`errno-base.h` and `errno.h`).
 use Rattle.std.specs.Prelude.{ℕ, List, codes}
-use Rattle.xn_bytes.specs.declared.errno.Errno.{Errno}
-use Rattle.xn_bytes.specs.declared.errno.Errno.TheVariants.{EPERM, ENOENT, EBUSY, EEXIST, ENOTDIR, EISDIR, EINVAL, EFBIG, ENOSPC, ENAMETOOLONG, ENOTEMPTY}
+use Rattle.xn_meaning.specs.declared.errno.Errno.{Errno}
+use Rattle.xn_meaning.specs.declared.errno.Errno.TheVariants.{EPERM, ENOENT, EBUSY, EEXIST, ENOTDIR, EISDIR, EINVAL, EFBIG, ENOSPC, ENAMETOOLONG, ENOTEMPTY}
 
 -- the number of an error
 abbrev pub error_number : Errno → ℕ

@@ -2,10 +2,10 @@
 use Rattle.std.specs.Prelude.{◌≡◌, ◌≢◌, ◌⊎◌, ℕ, nat_lt, if◌then◌else◌, List, [], ◌∷◌, length, Option, Some, None}
 use Rattle.xn_bytes.specs.declared.kind.Kind.{Kind}
 use Rattle.xn_bytes.specs.declared.kind.Kind.TheVariants.{Dir}
-use Rattle.xn_bytes.specs.declared.errno.Errno.{Errno}
-use Rattle.xn_bytes.specs.declared.errno.Errno.TheVariants.{ENOENT, ENOTDIR, EINVAL, ENAMETOOLONG}
+use Rattle.xn_meaning.specs.declared.errno.Errno.{Errno}
+use Rattle.xn_meaning.specs.declared.errno.Errno.TheVariants.{ENOENT, ENOTDIR, EINVAL, ENAMETOOLONG}
 use Rattle.xn_bytes.specs.Names.{IsName}
-use Rattle.xn_bytes.specs.Replies.{Reply, EntryOf, ErrorOf}
+use Rattle.xn_meaning.specs.Replies.{Reply, EntryOf, ErrorOf}
 
 -- ---- how a reading command ends
 

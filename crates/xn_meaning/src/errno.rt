@@ -1,5 +1,5 @@
 ghost use Rattle.std.specs.Prelude.{◌≡◌};
-ghost use Rattle.xn_bytes.specs.Errors.{error_number, error_word};
+ghost use Rattle.xn_meaning.specs.Errors.{error_number, error_word};
 
 /// Why a command is refused, by the names and numbers of Linux (`errno-base.h` and `errno.h`).
 #[derive(Clone, Copy, Debug, PartialEq, Eq)]

@@ -1,0 +1,12 @@
+pub mod Errors
+pub mod Words
+pub mod Replies
+pub mod Paths
+pub mod Manifests
+pub mod InodeRules
+pub mod Namings
+pub mod NameRules
+pub mod Sound
+pub mod NameSpace
+pub mod Reading
+pub mod Outcome
