@@ -3,9 +3,11 @@
 
 use std::alloc::Global;
 use std::test::Fail;
-use xn_bytes::{Errno, Kind, Name};
+use xn_bytes::{Kind, Name};
+use xn_meaning::Errno;
 use xn_text::{
-    Lines, ListLine, ParentLine, ParentLines, Reply, Words, WordsFault, image_line, usage_line,
+    Lines, ListLine, Manifest, ManifestFault, ParentLine, ParentLines, Reply, Words, WordsFault,
+    image_line, manifest_line, usage_line,
 };
 
 /// Words, in which `{}` is nothing and `{_}` a space, and what they are read as: `usage`, the number of a list or of parents, or a path's
@@ -91,6 +93,122 @@ const PARENTS: &str = r"
 18446744073709551615 305419896 96 193 255 | 18446744073709551615 305419896 `\c1\ff
 131 7 92 33 126 127 | 131 7 \5c!~\7f
 131 7 195 169 10 1 | 131 7 \c3\a9\0a\01
+";
+
+/// Texts of manifests, in which `/` is a newline, `_` a space, `^` a carriage return and `~` the byte 0xff, and what they are read
+/// as: the chunks and the runs, or the first line that is outside the grammar.
+const MANIFESTS: &str = r"
+ | line 1
+/ | line 1
+_ | line 1
+xfsns-manifest 1 | [] []
+xfsns-manifest 1/ | [] []
+xfsns-manifest 1_ | line 1
+_xfsns-manifest 1/ | line 1
+xfsns-manifest__1/ | line 1
+xfsns-manifest 1^/ | line 1
+xfsns-manifest/ | line 1
+xfsns-manifest 2/ | line 1
+Xfsns-manifest 1/ | line 1
+/xfsns-manifest 1/ | line 1
+chunk 128 0000000000000000/ | line 1
+xfsns-manifest 1/xfsns-manifest 1/ | line 2
+
+xfsns-manifest 1/chunk 128 0000000000000000/pool 512 64/ | [(128, 0)] [(512, 64)]
+xfsns-manifest 1/chunk 128 0000000000000000/pool 512 64 | [(128, 0)] [(512, 64)]
+xfsns-manifest 1/chunk 128 0000000000000000/ | [(128, 0)] []
+xfsns-manifest 1/pool 512 64/ | [] [(512, 64)]
+xfsns-manifest 1/pool 512 64/chunk 128 0000000000000000/ | line 3
+xfsns-manifest 1/chunk 128 0000000000000000/pool 512 64/chunk 192 0000000000000000/ | line 4
+xfsns-manifest 1/chunk 128 0000000000000000/xfsns-manifest 1/ | line 3
+
+xfsns-manifest 1/chunk 128 0000000000000000/chunk 192 0000000000000000/ | [(128, 0), (192, 0)] []
+xfsns-manifest 1/chunk 129 0000000000000000/chunk 193 0000000000000000/ | [(129, 0), (193, 0)] []
+xfsns-manifest 1/chunk 128 0000000000000000/chunk 191 0000000000000000/ | line 3
+xfsns-manifest 1/chunk 128 0000000000000000/chunk 128 0000000000000000/ | line 3
+xfsns-manifest 1/chunk 192 0000000000000000/chunk 128 0000000000000000/ | line 3
+xfsns-manifest 1/chunk 72057594037927936 0000000000000000/ | [(72057594037927936, 0)] []
+xfsns-manifest 1/chunk 72057594037927937 0000000000000000/ | line 2
+xfsns-manifest 1/chunk 18446744073709551615 0000000000000000/ | line 2
+xfsns-manifest 1/chunk 72057594037927936 0000000000000000/chunk 72057594037928000 0000000000000000/ | line 3
+
+xfsns-manifest 1/chunk 0 0123456789abcdef/ | [(0, 81985529216486895)] []
+xfsns-manifest 1/chunk 0 ffffffffffffffff/ | [(0, 18446744073709551615)] []
+xfsns-manifest 1/chunk 0 8000000000000001/ | [(0, 9223372036854775809)] []
+xfsns-manifest 1/chunk 0 000000000000000/ | line 2
+xfsns-manifest 1/chunk 0 00000000000000000/ | line 2
+xfsns-manifest 1/chunk 0 0123456789abcdeF/ | line 2
+xfsns-manifest 1/chunk 0 000000000000000g/ | line 2
+xfsns-manifest 1/chunk 0 000000000000000:/ | line 2
+xfsns-manifest 1/chunk 0 +00000000000000f/ | line 2
+xfsns-manifest 1/chunk 0 0x00000000000000/ | line 2
+
+xfsns-manifest 1/chunk 0128 0000000000000000/ | line 2
+xfsns-manifest 1/chunk 00 0000000000000000/ | line 2
+xfsns-manifest 1/chunk +128 0000000000000000/ | line 2
+xfsns-manifest 1/chunk -128 0000000000000000/ | line 2
+xfsns-manifest 1/chunk 18446744073709551616 0000000000000000/ | line 2
+xfsns-manifest 1/chunk 12a 0000000000000000/ | line 2
+xfsns-manifest 1/pool 0512 64/ | line 2
+xfsns-manifest 1/pool 512 064/ | line 2
+xfsns-manifest 1/pool 512 +64/ | line 2
+xfsns-manifest 1/pool 18446744073709551616 1/ | line 2
+xfsns-manifest 1/pool 512 18446744073709551616/ | line 2
+
+xfsns-manifest 1/chunk__128 0000000000000000/ | line 2
+xfsns-manifest 1/chunk 128__0000000000000000/ | line 2
+xfsns-manifest 1/chunk 128 0000000000000000_/ | line 2
+xfsns-manifest 1/_chunk 128 0000000000000000/ | line 2
+xfsns-manifest 1/chunk 128/ | line 2
+xfsns-manifest 1/chunk/ | line 2
+xfsns-manifest 1/chunk_ | line 2
+xfsns-manifest 1/Chunk 128 0000000000000000/ | line 2
+xfsns-manifest 1/pool__512 64/ | line 2
+xfsns-manifest 1/pool 512__64/ | line 2
+xfsns-manifest 1/pool 512 64_/ | line 2
+xfsns-manifest 1/pool 512 64 1/ | line 2
+xfsns-manifest 1/pool 512/ | line 2
+xfsns-manifest 1/pool/ | line 2
+
+xfsns-manifest 1// | line 2
+xfsns-manifest 1//chunk 128 0000000000000000/ | line 2
+xfsns-manifest 1/chunk 128 0000000000000000// | line 3
+xfsns-manifest 1/chunk 128 0000000000000000//pool 512 64/ | line 3
+xfsns-manifest 1/chunk 128 0000000000000000^/ | line 2
+xfsns-manifest 1/pool 512 64^/ | line 2
+xfsns-manifest 1/chünk 128 0000000000000000/ | line 2
+xfsns-manifest 1/chunk 128 000000000000000~/ | line 2
+xfsns-manifest 1/pool 512 64/~ | line 3
+~ | line 1
+
+xfsns-manifest 1/pool 512 0/ | line 2
+xfsns-manifest 1/pool 0 1/ | [] [(0, 1)]
+xfsns-manifest 1/pool 512 64/pool 576 1/ | [] [(512, 64), (576, 1)]
+xfsns-manifest 1/pool 512 64/pool 575 1/ | line 3
+xfsns-manifest 1/pool 512 64/pool 512 64/ | line 3
+xfsns-manifest 1/pool 512 64/pool 0 1/ | line 3
+xfsns-manifest 1/pool 72057594037927935 1/ | [] [(72057594037927935, 1)]
+xfsns-manifest 1/pool 72057594021150720 16777216/ | [] [(72057594021150720, 16777216)]
+xfsns-manifest 1/pool 72057594037927935 2/ | line 2
+xfsns-manifest 1/pool 72057594037927936 1/ | line 2
+xfsns-manifest 1/pool 18446744073709551615 1/ | line 2
+xfsns-manifest 1/pool 0 18446744073709551615/ | line 2
+xfsns-manifest 1/pool 0 16777216/ | [] [(0, 16777216)]
+xfsns-manifest 1/pool 0 16777217/ | line 2
+xfsns-manifest 1/pool 0 16777215/pool 16777215 1/ | [] [(0, 16777215), (16777215, 1)]
+xfsns-manifest 1/pool 0 16777215/pool 16777215 2/ | line 3
+xfsns-manifest 1/pool 0 16777216/pool 16777216 1/ | line 3
+";
+
+/// A chunk's mask, and the inodes of 128 to 191 that it lists of those next to its ends and in its middle.
+const MASKS: &str = r"
+0000000000000000 | 128 129 159 160 190 191
+ffffffffffffffff |
+0000000000000001 | 129 159 160 190 191
+8000000000000000 | 128 129 159 160 190
+0000000100000000 | 128 129 159 190 191
+fffffffffffffffe | 128
+7fffffffffffffff | 191
 ";
 
 const ERRNOS: [Errno; 11] = [
@@ -241,5 +359,110 @@ fn other_lines(rt: HostRuntime) -> Result<(), Fail> {
         image.as_slice(),
         b"image rule 24 inode 144 block 0\n".as_slice()
     );
+    let manifest = manifest_line(rt.alloc(), 18_446_744_073_709_551_615)
+        .ok()
+        .ok_or("there is memory")?;
+    assert_eq!(rt;
+        manifest.as_slice(),
+        b"manifest line 18446744073709551615\n".as_slice()
+    );
+    Ok(())
+}
+
+/// The bytes that a row spells.
+fn bytes_of(alloc: Global, spelled: &str) -> Result<Vec<u8>, Fail> {
+    let mut bytes = Vec::new(alloc);
+    for byte in spelled.bytes() {
+        bytes.push(match byte {
+            b'/' => b'\n',
+            b'_' => b' ',
+            b'^' => b'\r',
+            b'~' => 0xff,
+            other => other,
+        })?;
+    }
+    Ok(bytes)
+}
+
+/// What the text of a manifest is read as.
+fn manifest_told(alloc: Global, text: &[u8]) -> Result<String, Fail> {
+    match Manifest::read(alloc, text) {
+        Ok(manifest) => { Ok(format!(in alloc; "{:?} {:?}", manifest.chunks(), manifest.runs())?) }
+        Err(ManifestFault::Line { number }) => Ok(format!(in alloc; "line {number}")?),
+        Err(ManifestFault::Memory) => Err(Fail::from("there is memory")),
+    }
+}
+
+#[test]
+fn reads_manifests(rt: HostRuntime) -> Result<(), Fail> {
+    let alloc = rt.alloc();
+    for row in MANIFESTS.lines() {
+        if row.is_empty() {
+            continue;
+        }
+        let (spelled, wanted) = row.split_once(" | ").ok_or("a text")?;
+        let told = manifest_told(alloc, &bytes_of(alloc, spelled)?)?;
+        assert_eq!(rt; told.as_str(), wanted, "{spelled}");
+    }
+    Ok(())
+}
+
+/// What is written of a manifest that was read of a text, behind a byte; nothing where it was not.
+fn written(alloc: Global, text: &[u8]) -> Result<Option<Vec<u8>>, Fail> {
+    let Ok(manifest) = Manifest::read(alloc, text) else {
+        return Ok(None);
+    };
+    let mut out = Vec::from_slice(alloc, b">")?;
+    manifest
+        .write(alloc, &mut out)
+        .ok()
+        .ok_or("there is memory")?;
+    Ok(Some(out))
+}
+
+#[test]
+fn writes_manifests(rt: HostRuntime) -> Result<(), Fail> {
+    let alloc = rt.alloc();
+    let mut count = 0usize;
+    for row in MANIFESTS.lines() {
+        let Some((spelled, _)) = row.split_once("/ | [") else {
+            continue;
+        };
+        let mut text = bytes_of(alloc, spelled)?;
+        text.push(b'\n')?;
+        let out = written(alloc, &text)?.ok_or("a manifest")?;
+        assert_eq!(rt;
+            out.split_first(),
+            Some((&b'>', text.as_slice())),
+            "{spelled}"
+        );
+        count = count.saturating_add(1);
+    }
+    assert_eq!(rt; count, 16);
+    Ok(())
+}
+
+#[test]
+fn lists_inodes(rt: HostRuntime) -> Result<(), Fail> {
+    let alloc = rt.alloc();
+    for row in MASKS.lines().skip(1) {
+        let (mask, wanted) = row.split_once(" |").ok_or("a mask")?;
+        let text = format!(in alloc;
+            "xfsns-manifest 1\nchunk 0 {mask}\nchunk 128 {mask}\nchunk 256 {mask}\n"
+        )?;
+        let manifest = Manifest::read(alloc, text.as_bytes())
+            .ok()
+            .ok_or("a manifest")?;
+        let mut listed = String::new(alloc);
+        for number in [128, 129, 159, 160, 190, 191] {
+            if manifest.holds(number) {
+                let told = format!(in alloc; " {number}")?;
+                listed.push_str(&told)?;
+            }
+        }
+        assert_eq!(rt; listed.as_str(), wanted);
+        assert!(rt; !manifest.holds(64) && !manifest.holds(127) && !manifest.holds(192));
+        assert!(rt; !manifest.holds(320) && !manifest.holds(u64::MAX));
+    }
     Ok(())
 }

@@ -19,7 +19,7 @@ use Rattle.clap.specs.Words.{HasMatchesOf, HasKind, found_of, rows_of, kind_of}
 use Rattle.clap.specs.declared.parser.matches.ArgMatches.{ArgMatches}
 use Rattle.clap.specs.declared.error.Error.{Error}
 use Rattle.clap.proofs.WalkLemmas.{first_value-rows, raw_values-rows}
-use Rattle.xn_bytes.specs.Words.{IsWord}
+use Rattle.xn_meaning.specs.Words.{IsWord}
 use Rattle.xn_text.specs.Arguments.{IsSplit, reader_app, command_rule, rest_rule}
 
 -- a word with bytes, the first of them no `-`

@@ -3,3 +3,8 @@ pub mod NumberLemmas
 pub mod ListLemmas
 pub mod WordLemmas
 pub mod RowLemmas
+pub mod PartLemmas
+pub mod ManifestLemmas
+pub mod WritingLemmas
+pub mod LawLemmas
+pub mod HoldsLemmas

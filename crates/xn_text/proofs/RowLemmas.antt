@@ -2,10 +2,10 @@
 use Rattle.std.proofs.Common.{◌≡◌, ℕ, List, [], ◌∷◌, ◌++◌, map, refl, sym, ap, ap₂}
 use Rattle.std.specs.Prelude.{codes, decimal, flat_map}
 use Rattle.std.proofs.lemmas.List.{length-map}
-use Rattle.xn_bytes.specs.Replies.{newline}
+use Rattle.xn_meaning.specs.Replies.{newline}
 use Rattle.xn_text.specs.Viewed.{rows_text}
 
-texts_said : {X Y : Type 0} (text : Y → List ℕ) (of : X → Y) (rows : List X) → flat_map (λ row. text (of row)) rows ≡ flat_map text (map of rows)
+pub texts_said : {X Y : Type 0} (text : Y → List ℕ) (of : X → Y) (rows : List X) → flat_map (λ row. text (of row)) rows ≡ flat_map text (map of rows)
 texts_said text of [] = refl
 texts_said text of (row ∷ rows) = ap (λ (rest : List ℕ). text (of row) ++ rest) (texts_said text of rows)
 

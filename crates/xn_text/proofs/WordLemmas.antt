@@ -6,7 +6,7 @@ use Rattle.clap.specs.Words.{found_of, matched_of, raw_values}
 use Rattle.clap.specs.declared.parser.matches.ArgMatches.{ArgMatches}
 use Rattle.xn_text.specs.Arguments.{IsSplit}
 use Rattle.xn_bytes.specs.Escapes.{escaped}
-use Rattle.xn_bytes.specs.Words.{IsWord, AsksOf, AsksList, AsksParents, AsksResolve, AsksNothing}
+use Rattle.xn_meaning.specs.Words.{IsWord, AsksOf, AsksList, AsksParents, AsksResolve, AsksNothing}
 use Rattle.xn_text.proofs.NumberLemmas.{decimal_word}
 use Rattle.std.specs.Borrow.{Bor}
 use Rattle.std.specs.Str.{bytes_eq}

@@ -1,6 +1,6 @@
 -- What words that were read ask for, and why others are refused.
 use Rattle.std.specs.Prelude.{◌≡◌, ℕ, List}
-use Rattle.xn_bytes.specs.Words.{AsksList, AsksResolve, AsksParents}
+use Rattle.xn_meaning.specs.Words.{AsksList, AsksResolve, AsksParents}
 use Rattle.xn_bytes.specs.declared.escaped_text.EscapeFault.{EscapeFault}
 use Rattle.xn_bytes.specs.declared.escaped_text.EscapeFault.TheVariants as escapes
 use Rattle.xn_text.specs.declared.words.Words.{Words}

@@ -1,4 +1,9 @@
 pub mod Numbers
+pub mod Parts
 pub mod Arguments
 pub mod Asked
 pub mod Viewed
+pub mod Manifest
+pub mod Reading
+pub mod Reader
+pub mod Writing

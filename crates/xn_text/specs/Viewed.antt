@@ -1,7 +1,7 @@
 -- Replies, the lines of a list and those of parents, as what they say.
 use Rattle.std.specs.Prelude.{ℕ, List, [], ◌∷◌, ◌++◌, length, map, codes, decimal, flat_map}
 use Rattle.xn_bytes.specs.Parents.{ParentRecord}
-use Rattle.xn_bytes.specs.Replies.{Line, Reply as Said, Plain, EntryOf, ListOf, ParentsOf, ErrorOf, newline}
+use Rattle.xn_meaning.specs.Replies.{Line, Reply as Said, Plain, EntryOf, ListOf, ParentsOf, ErrorOf, newline}
 use Rattle.xn_text.specs.declared.line.ListLine.{ListLine}
 use Rattle.xn_text.specs.declared.line.ParentLine.{ParentLine}
 use Rattle.xn_text.specs.declared.reply.Reply.{Reply}

@@ -2,7 +2,7 @@
 
 ghost use Rattle.std.specs.Prelude.{◌≡◌, ◌≢◌, ◌<◌, All, IfOk, IfErr, length, map, string_bytes};
 ghost use Rattle.clap.specs.Words.{app_of, kind_of};
-ghost use Rattle.xn_bytes.specs.Words.{IsWord};
+ghost use Rattle.xn_meaning.specs.Words.{IsWord};
 ghost use Rattle.xn_text.specs.Arguments.{IsSplit, reader_app};
 ghost use Rattle.xn_text.specs.declared.words.WordsFault.TheVariants.{Usage};
 

@@ -2,14 +2,21 @@
 #![tactic(auto)]
 
 mod arguments;
+mod entry;
 mod line;
+mod manifest;
 mod number;
+mod parts;
+mod reader;
 mod reply;
 mod row;
 mod told;
 mod words;
+mod writer;
 
 pub use line::{Lines, ListLine, ParentLine, ParentLines};
+pub use manifest::Manifest;
+pub use reader::{ManifestFault, one_reading};
 pub use reply::Reply;
-pub use told::{image_line, usage_line};
+pub use told::{image_line, manifest_line, usage_line};
 pub use words::{FORMS, Words, WordsFault};

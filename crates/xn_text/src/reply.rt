@@ -1,11 +1,12 @@
 ghost use Rattle.std.specs.Prelude.{◌≡◌, ◌++◌, OnOk, OnErr, length, take};
-ghost use Rattle.xn_bytes.specs.Replies.{reply_text, Plain, EntryOf, ListOf, ParentsOf, ErrorOf};
+ghost use Rattle.xn_meaning.specs.Replies.{reply_text, Plain, EntryOf, ListOf, ParentsOf, ErrorOf};
 ghost use Rattle.xn_text.specs.Viewed.{lines_of, parents_of, reply_of};
 
 use crate::row::write_rows;
 use crate::{Lines, ListLine, ParentLine, ParentLines};
 use std::alloc::Global;
-use xn_bytes::{Errno, Kind, Memory};
+use xn_bytes::{Kind, Memory};
+use xn_meaning::Errno;
 
 /// What a command answers.
 #[derive(Debug, Drop)]

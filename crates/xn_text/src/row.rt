@@ -2,7 +2,7 @@
 
 ghost use Rattle.std.specs.Prelude.{◌≡◌, ◌++◌, ◌∷◌, [], List, ℕ, OnOk, OnErr, decimal, length, take, flat_map};
 ghost use Rattle.xn_bytes.specs.Escapes.{escaped};
-ghost use Rattle.xn_bytes.specs.Replies.{line_text, parent_text, newline, space};
+ghost use Rattle.xn_meaning.specs.Replies.{line_text, parent_text, newline, space};
 ghost use Rattle.xn_text.specs.Viewed.{line_of, parent_of, rows_text};
 
 use crate::{ListLine, ParentLine};

@@ -1,6 +1,6 @@
 ghost use Rattle.std.specs.Prelude.{◌≡◌, ◌≢◌, ◌<◌, ◌^◌, ◌∷◌, ◌↔◌, ℕ, IsTrue, All, IfOk, IfErr, List, decimal, map, string_bytes};
 ghost use Rattle.xn_bytes.specs.Escapes.{escaped};
-ghost use Rattle.xn_bytes.specs.Words.{IsWord, AsksNothing};
+ghost use Rattle.xn_meaning.specs.Words.{IsWord, AsksNothing};
 ghost use Rattle.xn_text.specs.Asked.{AsksFor, IsRefusal};
 ghost use Rattle.xn_text.specs.declared.words.WordsFault.TheVariants.{Usage, Memory};
 

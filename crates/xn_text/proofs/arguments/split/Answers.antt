@@ -3,7 +3,7 @@ use Rattle.std.proofs.lemmas.List.{length-map}
 use Rattle.std.specs.Prelude.{All, map, string_bytes}
 use Rattle.std.proofs.lemmas.List.Elements.{All-map}
 use Rattle.clap.specs.Words.{App, HasMatchesOf, HasKind, is_simple_and_free, fault_of}
-use Rattle.xn_bytes.specs.Words.{IsWord}
+use Rattle.xn_meaning.specs.Words.{IsWord}
 use Rattle.xn_text.proofs.ArgumentLemmas.{splits, refuses, simple_and_free}
 use Rattle.xn_text.proofs.arguments.split.Goals as goal
 

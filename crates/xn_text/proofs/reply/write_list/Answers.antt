@@ -1,6 +1,6 @@
 use Rattle.std.proofs.Common.{◌≡◌, ◌++◌, ℕ, List, subst}
 use Rattle.std.specs.Prelude.{OnOk}
-use Rattle.xn_bytes.specs.Replies.{line_text}
+use Rattle.xn_meaning.specs.Replies.{line_text}
 use Rattle.xn_text.specs.Viewed.{line_of}
 use Rattle.xn_text.proofs.RowLemmas.{rows_said}
 use Rattle.xn_text.proofs.reply.write_list.Goals as goal

@@ -1,6 +1,6 @@
 use Rattle.std.proofs.Common.{◌≡◌, ◌++◌, ℕ, List, subst}
 use Rattle.std.specs.Prelude.{OnOk}
-use Rattle.xn_bytes.specs.Replies.{parent_text}
+use Rattle.xn_meaning.specs.Replies.{parent_text}
 use Rattle.xn_text.specs.Viewed.{parent_of}
 use Rattle.xn_text.proofs.RowLemmas.{rows_said}
 use Rattle.xn_text.proofs.reply.write_parents.Goals as goal

@@ -1,7 +1,7 @@
 use Rattle.std.proofs.Common.{ap, ap₂, subst, arith, ◌∙◌, ◌∷◌, [], ℕ, List, get_or}
 use Rattle.std.specs.Prelude.{codes}
 use Rattle.std.proofs.lemmas.Result.{err_from_is_err_and}
-use Rattle.xn_bytes.specs.Words.{IsWord}
+use Rattle.xn_meaning.specs.Words.{IsWord}
 use Rattle.xn_text.proofs.WordLemmas.{of_three, same_text, asks_of, none, list_refused, parents_refused, path_refused}
 use Rattle.xn_text.proofs.words.read_arguments.Goals as goal
 

@@ -2,7 +2,7 @@ use Rattle.xn_bytes.proofs.TestLemmas.{holds, fails}
 use Rattle.xn_text.proofs.WordLemmas.{asks_nothing, all_unmapped, rest_words}
 use Rattle.std.specs.Prelude.{map, string_bytes}
 use Rattle.std.proofs.lemmas.List.Elements.{All-map}
-use Rattle.xn_bytes.specs.Words.{IsWord}
+use Rattle.xn_meaning.specs.Words.{IsWord}
 use Rattle.xn_text.proofs.words.Words.read.Goals as goal
 
 pub returns-then-not-are_words-clause-err : goal.returns-then-not-are_words-clause-err
