@@ -1,0 +1,13 @@
+pub mod BitsOfWords
+pub mod MarkSteps
+pub mod LeafChanges
+pub mod TreeFlags
+pub mod Descents
+pub mod Levels
+pub mod LeafFills
+pub mod RunSearches
+pub mod RunSplits
+pub mod RunsHeld
+pub mod FlaggedBlocks
+pub mod PoolSteps
+pub mod HomeRuns
