@@ -1,12 +1,12 @@
 -- The image that is shown after whole sectors are kept, or a front of them.
-use Rattle.std.proofs.Common.{◌≡◌, ℕ, ◌+◌, ◌-◌, ◌*◌, ◌≤◌, List, ◌++◌, length, take, Option, Some, None, Result, Ok, Err, refl, sym, ap, subst, ◌∙◌, arith, length-append, length-take}
+use Rattle.std.proofs.Common.{◌≡◌, ℕ, ◌+◌, ◌-◌, ◌*◌, ◌≤◌, List, ◌++◌, length, take, Option, Some, None, Result, Ok, Err, refl, sym, ap, ◌∙◌, arith, length-append, length-take}
 use Rattle.std.specs.Prelude.{slice_range, option_map, IfSome, OnOk, OnErr}
 use Rattle.std.specs.Result.{is_ok}
 use Rattle.std.proofs.lemmas.Result.{on_ok_weaker, on_err_weaker}
 use Rattle.xn_bytes.specs.Numbers.{overlaid}
 use Rattle.xn_bytes.specs.Superblock.{Geometry}
 use Rattle.xn_bytes.proofs.Overlays.{length-slice_range, overlaid-longer}
-use Rattle.xn_inode.specs.Stores.{BothImages, AreFree}
+use Rattle.xn_inode.specs.Stores.{BothImages}
 use Rattle.xn_replay.specs.Overlay.{ViewState, shown, AreKept, LaysOver, LaysFront}
 use Rattle.xn_replay.specs.Viewed.{IsSeen}
 use Rattle.xn_replay.proofs.Kept.{length-shown}
@@ -64,9 +64,10 @@ pub record WasPut {T E : Type 0} (result : Result T E) (view view' : ViewState) 
 -- The sectors were kept from where the superblock has them; the error is told by another name.
 pub was_put : {T D E : Type 0} (kept : Result T D) (result : Result T E) (view view' : ViewState) (shape : Geometry) (image : Option (List ℕ)) (sectors read_faults reads first count : ℕ) (place : Geometry → ℕ) (bytes : List ℕ)
     → IsSeen view image sectors read_faults reads → shape ≡ view.shape → first ≡ place shape → first + count ≤ 8 * shape.data_blocks → length bytes ≡ 512 * count
-    → view'.shape ≡ view.shape → view'.free ≡ view.free → OnOk kept (LaysOver view.kept view'.kept first bytes) → OnErr kept (LaysFront view.kept view'.kept first bytes) → is_ok result ≡ is_ok kept
+    → view' ≡ record view { kept = view'.kept } → OnOk kept (LaysOver view.kept view'.kept first bytes) → OnErr kept (LaysFront view.kept view'.kept first bytes) → is_ok result ≡ is_ok kept
     → WasPut result view view' image sectors read_faults reads count (place view.shape) bytes
-was_put kept result view view' shape image sectors read_faults reads first count place bytes seen shape_is at within size shape_stays free_stays ok err same =
+was_put kept result view view' shape image sectors read_faults reads first count place bytes seen shape_is at within size others ok err same =
+    let shape_stays : view'.shape ≡ view.shape = ap (λ (v : ViewState). v.shape) others in
     let blocks : shape.data_blocks ≡ view.shape.data_blocks = ap (λ (s : Geometry). s.data_blocks) shape_is in
     let blocks_stay : view'.shape.data_blocks ≡ view.shape.data_blocks = ap (λ (s : Geometry). s.data_blocks) shape_stays in
     let there : first ≡ place view.shape = at ∙ ap place shape_is in
@@ -79,7 +80,6 @@ was_put kept result view view' shape image sectors read_faults reads first count
         all_blocks = omega (arith, seen.all_blocks);
         length = seen.length;
         kept = kept_after kept view.kept view'.kept sectors first bytes room seen.kept ok err;
-        free = subst (λ (free : List ℕ). AreFree free free) (sym free_stays) seen.free;
         small = seen.small;
       };
     }

@@ -6,11 +6,12 @@ use Rattle.std.specs.BTreeMap.{is_at}
 use Rattle.xn_bytes.specs.Numbers.{overlaid}
 use Rattle.xn_bytes.specs.Superblock.{Geometry}
 
--- What the superblock says, the sectors that are kept, each as its number and its 512 bytes: rising, each once; and the
--- blocks that are free.
+-- What the superblock says; the sectors that are kept, each as its number and its 512 bytes: rising, each once; and the
+-- pool's blocks, and those of them that are free.
 pub record ViewState : Type 0 where
   pub shape : Geometry
   pub kept : List (ℕ × List ℕ)
+  pub blocks : List ℕ
   pub free : List ℕ
 
 -- the image with the kept sectors laid over it

@@ -1,18 +1,16 @@
 -- A machine seen through a view.
 use Rattle.std.specs.Prelude.{◌≡◌, ℕ, ◌*◌, ◌^◌, ◌<◌, ◌≤◌, List, length, Option, IfSome}
 use Rattle.std.proofs.Common.{refl, ◌∙◌}
-use Rattle.xn_inode.specs.Stores.{AreFree}
 use Rattle.xn_machine.specs.declared.machine.Machine.{Ghosts}
 use Rattle.xn_machine.specs.Frames.{MachineStays, stays_at_first, stays_on}
 use Rattle.xn_replay.specs.Overlay.{ViewState, AreKept}
 
--- The machine has all blocks of the view's image, and what is kept has its place among them. The free blocks rise, and
--- the numbers are within their types.
+-- The machine has all blocks of the view's image, and what is kept has its place among them; and the numbers are within
+-- their types.
 pub record IsSeen (view : ViewState) (image : Option (List ℕ)) (sectors read_faults reads : ℕ) : Type 0 where
   pub all_blocks : 8 * view.shape.data_blocks ≤ sectors
   pub length : IfSome image (λ x. length x ≡ 512 * sectors)
   pub kept : AreKept sectors view.kept
-  pub free : AreFree view.free view.free
   pub small : (sectors < 2 ^ 64) × (read_faults < 2 ^ 64) × (reads < 2 ^ 64)
 
 -- The view and the machine were only read.

@@ -22,7 +22,7 @@ impl<M: Machine> Store for Seen<'_, '_, M> {
 
     ghost IsWhole = { λ s. IsSeen s.view.now (M.image s.machine.now) (M.sector_count s.machine.now) (M.read_faults s.machine.now) (M.reads s.machine.now) };
 
-    ghost pool = { λ s. s.view.now.free };
+    ghost pool = { λ s. s.view.now.blocks };
 
     ghost free = { λ s. s.view.now.free };
 
@@ -71,16 +71,15 @@ impl<M: Machine> Store for Seen<'_, '_, M> {
     }
 
     fn free_blocks(&self) -> u64 {
-        self.view.free_blocks()
+        self.view.free_count()
     }
 
-    /// No view takes blocks yet: the call gives up as if memory had run out.
     fn take_block(&mut self, near: Option<u64>) -> Result<u64, StoreFault> {
-        Err(StoreFault::Memory)
+        Ok(self.view.take_block(near))
     }
 
-    /// Every block that can be free is.
     fn give_block(&mut self, block: u64) -> Result<(), StoreFault> {
+        self.view.give_block(block);
         Ok(())
     }
 }

@@ -1,6 +1,7 @@
-ghost use Rattle.std.specs.Prelude.{◌≡◌, ℕ, ◌+◌, ◌*◌, ◌/◌, ◌%◌, ◌^◌, ◌<◌, ◌≤◌, ◌↔◌, [], length, IsTrue, OnOk, OnErr, unwrap_or};
+ghost use Rattle.std.specs.Prelude.{◌≡◌, ◌≢◌, ℕ, ◌+◌, ◌*◌, ◌/◌, ◌%◌, ◌^◌, ◌<◌, ◌≤◌, ◌↔◌, ◌==◌, not, [], length, filter, IsTrue, OnOk, OnErr, unwrap_or};
 ghost use Rattle.std.specs.Option.{option_copied};
 ghost use Rattle.xn_bytes.specs.Numbers.{sector_of};
+ghost use Rattle.xn_inode.specs.Stores.{AreFree, IsGiven, IsTaken};
 ghost use Rattle.xn_replay.specs.Overlay.{ViewState, kept_at, AreAllKept, LaysOver, LaysFront};
 
 use std::alloc::Global;
@@ -8,6 +9,7 @@ use std::collections::BTreeMap;
 use std::marker::Model;
 use xn_bytes::Memory;
 use xn_inode::Super;
+use xn_pool::Pool;
 
 const SECTOR_SIZE: usize = 512;
 
@@ -16,8 +18,7 @@ const SECTOR_SIZE: usize = 512;
 pub struct View {
     geometry: Super,
     kept: BTreeMap<u64, [u8; SECTOR_SIZE]>,
-    // The blocks that can be taken: none as long as no view is made with a pool.
-    free: Vec<u64>,
+    pool: Pool,
 }
 
 impl Model for View {
@@ -25,18 +26,18 @@ impl Model for View {
 
     ghost Value = { ViewState };
 
-    ghost view = { λ v. record { shape = v.geometry; kept = v.kept.entries; free = v.free.items } };
+    ghost view = { λ v. record { shape = v.geometry; kept = v.kept.entries; blocks = v.pool.blocks; free = v.pool.free } };
 }
 
 impl View {
-    /// The home sectors alone. It takes no memory.
-    pub fn home(alloc: Global, geometry: &Super) -> View
-        ensures { result ≡ record { shape = geometry.now; kept = []; free = [] } }
+    /// The home sectors alone, with a pool of blocks that can be taken. It takes no memory.
+    pub fn home(alloc: Global, geometry: &Super, pool: Pool) -> View
+        ensures { result ≡ record { shape = geometry.now; kept = []; blocks = pool.blocks; free = pool.free } }
     {
         View {
             geometry: *geometry,
             kept: BTreeMap::new(alloc),
-            free: Vec::new(alloc),
+            pool,
         }
     }
 
@@ -48,10 +49,36 @@ impl View {
     }
 
     /// How many blocks are free.
-    pub fn free_blocks(&self) -> u64
-        ensures { result ≡ length self.now.free }
+    pub fn free_count(&self) -> u64
+        ensures count { result ≡ length self.now.free }
+        ensures set { AreFree self.now.blocks self.now.free }
     {
-        self.free.len() as u64
+        self.pool.free_count()
+    }
+
+    /// Makes a block not free, if it is free.
+    pub fn mark_used(&mut self, block: u64)
+        ensures free { self.new.free ≡ filter (λ other. not (other == block)) self.old.free }
+        ensures others { self.new ≡ record self.old { free = self.new.free } }
+    {
+        self.pool.mark_used(block);
+    }
+
+    /// Takes a free block: `near` where that is free, else the least.
+    pub fn take_block(&mut self, near: Option<u64>) -> u64
+        requires { self.old.free ≢ [] }
+        ensures taken { IsTaken near self.old.free self.new.free result }
+        ensures others { self.new ≡ record self.old { free = self.new.free } }
+    {
+        self.pool.take(near)
+    }
+
+    /// Makes a block of the pool free. It has no effect on another block.
+    pub fn give_block(&mut self, block: u64)
+        ensures given { IsGiven self.old.blocks self.old.free self.new.free block }
+        ensures others { self.new ≡ record self.old { free = self.new.free } }
+    {
+        self.pool.give(block);
     }
 
     /// What is kept of a sector.
@@ -89,8 +116,7 @@ impl View {
     /// Keeps a sector. Without memory nothing changes.
     fn keep_one(&mut self, sector: u64, bytes: &[u8]) -> Result<(), Memory>
         requires { length bytes.now ≡ 512 }
-        ensures shape { self.new.shape ≡ self.old.shape }
-        ensures free { self.new.free ≡ self.old.free }
+        ensures others { self.new ≡ record self.old { kept = self.new.kept } }
         ensures ok { OnOk result (LaysOver self.old.kept self.new.kept sector bytes.now) }
         ensures err { OnErr result (self.new.kept ≡ self.old.kept) }
     {
@@ -104,8 +130,7 @@ impl View {
     pub fn keep(&mut self, first: u64, bytes: &[u8]) -> Result<(), Memory>
         requires whole { length bytes.now % 512 ≡ 0 }
         requires small { first + length bytes.now / 512 < 2 ^ 64 }
-        ensures shape { self.new.shape ≡ self.old.shape }
-        ensures free { self.new.free ≡ self.old.free }
+        ensures others { self.new ≡ record self.old { kept = self.new.kept } }
         ensures ok { OnOk result (LaysOver self.old.kept self.new.kept first bytes.now) }
         ensures err { OnErr result (LaysFront self.old.kept self.new.kept first bytes.now) }
     {

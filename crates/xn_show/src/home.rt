@@ -11,9 +11,10 @@ use std::alloc::Global;
 use xn_bytes::Kind;
 use xn_inode::{Core, Store, StoreFault, Super};
 use xn_machine::Machine;
+use xn_pool::Pool;
 use xn_replay::View;
 
-/// The view of the home sectors; None where the superblock can't be read or is not accepted.
+/// The view of the home sectors; None where the superblock can't be read or is not accepted, or memory ran out.
 pub fn home_of<M: Machine>(alloc: Global, machine: &mut M) -> Option<View>
     ensures { IfSome result (λ view. IsSeen view (M.image machine.new) (M.sector_count machine.new) (M.read_faults machine.new) (M.reads machine.new)) }
 {
@@ -24,7 +25,8 @@ pub fn home_of<M: Machine>(alloc: Global, machine: &mut M) -> Option<View>
     let mut sector = [0; 512];
     machine.read(0, &mut sector).ok()?;
     let geometry = Super::read(&sector, sectors).ok()?;
-    Some(View::home(alloc, &geometry))
+    let pool = Pool::new(alloc, &geometry, &[]).ok()?;
+    Some(View::home(alloc, &geometry, pool))
 }
 
 /// Whether an inode in range is a directory's, by its mode. Its core has to be sound.

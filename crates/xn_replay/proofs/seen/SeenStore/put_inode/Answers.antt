@@ -6,16 +6,16 @@ pub returns-clause-put : goal.returns-clause-put
 returns-clause-put g c =
     (was_put c.keep.result c.map_err.result _ _ _ _ _ _ _ _ 1 (λ s. sector_of_inode s c.args.number) _
     c.requires.whole c.geometry.ensures c.sector_of_inode-sector.ensures.value c.sector_of_inode-sector.ensures.within c.requires.size
-    c.keep.ensures.shape c.keep.ensures.free c.keep.ensures.ok c.keep.ensures.err c.map_err.ensures.variant).put
+    c.keep.ensures.others c.keep.ensures.ok c.keep.ensures.err c.map_err.ensures.variant).put
 
 pub returns-clause-part : goal.returns-clause-part
 returns-clause-part g c =
     (was_put c.keep.result c.map_err.result _ _ _ _ _ _ _ _ 1 (λ s. sector_of_inode s c.args.number) _
     c.requires.whole c.geometry.ensures c.sector_of_inode-sector.ensures.value c.sector_of_inode-sector.ensures.within c.requires.size
-    c.keep.ensures.shape c.keep.ensures.free c.keep.ensures.ok c.keep.ensures.err c.map_err.ensures.variant).part
+    c.keep.ensures.others c.keep.ensures.ok c.keep.ensures.err c.map_err.ensures.variant).part
 
 pub returns-clause-whole : goal.returns-clause-whole
 returns-clause-whole g c =
     (was_put c.keep.result c.map_err.result _ _ _ _ _ _ _ _ 1 (λ s. sector_of_inode s c.args.number) _
     c.requires.whole c.geometry.ensures c.sector_of_inode-sector.ensures.value c.sector_of_inode-sector.ensures.within c.requires.size
-    c.keep.ensures.shape c.keep.ensures.free c.keep.ensures.ok c.keep.ensures.err c.map_err.ensures.variant).whole
+    c.keep.ensures.others c.keep.ensures.ok c.keep.ensures.err c.map_err.ensures.variant).whole

@@ -4,7 +4,6 @@ use Rattle.xn_replay.proofs.view.View.keep.Given as goal
 
 abbrev pub invariant-loop-k : goal.invariant-loop-k
 invariant-loop-k l = record {
-  shape : l.self.shape ≡ l.fn.self.shape;
-  free : l.self.free ≡ l.fn.self.free;
+  others : l.self ≡ record l.fn.self { kept = l.self.kept };
   laid : LaysOver l.fn.self.kept l.self.kept l.first (take (512 * l.k) l.bytes);
 }
