@@ -6,8 +6,9 @@ use Rattle.xn_bytes.specs.Causes.{Rose}
 use Rattle.xn_bytes.specs.Superblock.{Geometry}
 use Rattle.xn_bytes.specs.Inode.{inode_of}
 use Rattle.xn_bytes.specs.DirectoryRules.{BreaksBlocks}
-use Rattle.xn_bytes.specs.NameSpace.{End}
-use Rattle.xn_bytes.specs.Reading.{ListEnds, ListsDirectory, IsAttached}
+use Rattle.xn_meaning.specs.Manifests.{Manifest}
+use Rattle.xn_meaning.specs.NameSpace.{End}
+use Rattle.xn_meaning.specs.Reading.{ListEnds, ListsDirectory, IsAttached}
 use Rattle.xn_inode.specs.declared.fork_fault.ForkFault.{ForkFault}
 use Rattle.xn_inode.specs.declared.fork_fault.ForkFault.TheVariants.{Read, Memory, Broken}
 use Rattle.xn_dir.specs.Faults.{IsFaultOver}
@@ -23,19 +24,19 @@ directory_fault g dir None before now (Broken rule block) broken = record { ends
 directory_fault g dir (Some x) before now (Broken rule block) broken = record { ends = inl (rule, block, refl, broken); cause = λ read. absurd cc }
 
 -- the end of the directory's list is that of the inode's
-attached_end : (g : Geometry) (ino : ℕ) (image : Option (List ℕ)) (end : Option End) → IfSome image (λ x. IsAttached g (inode_of g x ino) ino)
-    → IfSome end (λ e. IfSome image (λ x. ListsDirectory g ino x e)) → IfSome end (λ e. IfSome image (λ x. ListEnds g ino x e))
-attached_end g ino image None attached ends = tt
-attached_end g ino None (Some e) attached ends = tt
-attached_end g ino (Some x) (Some e) attached ends = inr (inr (inr (attached, ends)))
+attached_end : (g : Geometry) (m : Manifest) (ino : ℕ) (image : Option (List ℕ)) (end : Option End) → IfSome image (λ x. IsAttached g m (inode_of g x ino) ino)
+    → IfSome end (λ e. IfSome image (λ x. ListsDirectory g ino x e)) → IfSome end (λ e. IfSome image (λ x. ListEnds g m ino x e))
+attached_end g m ino image None attached ends = tt
+attached_end g m ino None (Some e) attached ends = tt
+attached_end g m ino (Some x) (Some e) attached ends = inr (inr (inr (attached, ends)))
 
 -- where the count of faults rose later, it rose from before on
 pub rose_earlier : (before between now : ℕ) → before ≤ between → Rose between now → Rose before now
 rose_earlier before between now later rose = omega arith
 
-pub attached_list : (g : Geometry) (ino : ℕ) (image : Option (List ℕ)) (before between now : ℕ) (result : Result Reply SeeFault) → IfSome image (λ x. IsAttached g (inode_of g x ino) ino) → before ≤ between
-    → Answered (ListsDirectory g ino) image between now result → Answered (ListEnds g ino) image before now result
-attached_list g ino image before between now result attached later answered = record {
-  ends = attached_end g ino image (end_of result) attached answered.ends;
+pub attached_list : (g : Geometry) (m : Manifest) (ino : ℕ) (image : Option (List ℕ)) (before between now : ℕ) (result : Result Reply SeeFault) → IfSome image (λ x. IsAttached g m (inode_of g x ino) ino) → before ≤ between
+    → Answered (ListsDirectory g ino) image between now result → Answered (ListEnds g m ino) image before now result
+attached_list g m ino image before between now result attached later answered = record {
+  ends = attached_end g m ino image (end_of result) attached answered.ends;
   cause = IfErr-weaker result _ _ (λ fault rose read. rose_earlier before between now later (rose read)) answered.cause;
 }

@@ -5,9 +5,10 @@ use Rattle.xn_bytes.specs.declared.kind.Kind.TheVariants.{Dir}
 use Rattle.xn_bytes.specs.Superblock.{Geometry}
 use Rattle.xn_bytes.specs.Inode.{inode_of}
 use Rattle.xn_bytes.specs.Hashes.{name_hash_of}
-use Rattle.xn_bytes.specs.Paths.{parts_of}
-use Rattle.xn_bytes.specs.NameSpace.{Place}
-use Rattle.xn_bytes.specs.Reading.{IsDirectoryIn}
+use Rattle.xn_meaning.specs.Manifests.{Manifest}
+use Rattle.xn_meaning.specs.Paths.{parts_of}
+use Rattle.xn_meaning.specs.NameSpace.{Place}
+use Rattle.xn_meaning.specs.Reading.{IsDirectoryIn}
 use Rattle.xn_bytes.specs.Costs.{HasLookUpCost, look_up_most}
 use Rattle.xn_ns.specs.Costs.{CostsAtMost, LookUpCostsAtMost, StepCostsAtMost}
 use Rattle.xn_ns.proofs.WalksOn.{LeadsHere}
@@ -36,10 +37,10 @@ one_before : (most before between now : ℕ) → between ≤ before + 1 → now 
 one_before most before between now one more = omega (arith, one, more)
 
 -- a look at the inode before it
-pub looked_before : (g : Geometry) (image : Option (List ℕ)) (here : Place) (part : List ℕ) (before between now : ℕ) → here.kind ≡ Dir → IfSome image (λ x. IsDirectoryIn g x here.ino) → between ≤ before + 1
-    → FetchedBy image (λ x. LookUpCostsAtMost g x here.ino (name_hash_of part)) between now (λ most. most) → FetchedBy image (λ x. StepCostsAtMost g x here part) before now (λ most. 1 + most)
-looked_before g None here part before between now kind directory one fetched = tt
-looked_before g (Some x) here part before between now kind directory one fetched = λ most bound. one_before most before between now one (fetched most (bound kind directory))
+pub looked_before : (g : Geometry) (m : Manifest) (image : Option (List ℕ)) (here : Place) (part : List ℕ) (before between now : ℕ) → here.kind ≡ Dir → IfSome image (λ x. IsDirectoryIn g m x here.ino) → between ≤ before + 1
+    → FetchedBy image (λ x. LookUpCostsAtMost g x here.ino (name_hash_of part)) between now (λ most. most) → FetchedBy image (λ x. StepCostsAtMost g m x here part) before now (λ most. 1 + most)
+looked_before g m None here part before between now kind directory one fetched = tt
+looked_before g m (Some x) here part before between now kind directory one fetched = λ most bound. one_before most before between now one (fetched most (bound kind directory))
 
 -- ---- the parts of a path
 
@@ -48,26 +49,26 @@ abbrev for_parts : ℕ → List ℕ → ℕ
 for_parts most path = (1 + most) * length (parts_of path)
 
 -- what is fetched, with what the rest of the path may fetch, is within what the whole path may
-abbrev pub FetchedOn : Geometry → Option (List ℕ) → List ℕ → List ℕ → ℕ → ℕ → Type 0
-FetchedOn g image path rest first now = IfSome image (λ x. (most : ℕ) → CostsAtMost g x path most → now + for_parts most rest ≤ first + for_parts most path)
+abbrev pub FetchedOn : Geometry → Manifest → Option (List ℕ) → List ℕ → List ℕ → ℕ → ℕ → Type 0
+FetchedOn g m image path rest first now = IfSome image (λ x. (most : ℕ) → CostsAtMost g m x path most → now + for_parts most rest ≤ first + for_parts most path)
 
 -- the bound is one on the look-up of the part that comes next
-step_of_path : (g : Geometry) (path x : List ℕ) (here : Place) (rest part behind : List ℕ) (most : ℕ) → LeadsHere g (Some x) path here rest → parts_of rest ≡ part ∷ parts_of behind
-    → CostsAtMost g x path most → StepCostsAtMost g x here part most
-step_of_path g path x here rest part behind most (taken, is, reaches) parts bound = bound taken (parts_of behind) part here (is ∙ ap (λ (ps : List (List ℕ)). taken ++ ps) parts) reaches
+step_of_path : (g : Geometry) (m : Manifest) (path x : List ℕ) (here : Place) (rest part behind : List ℕ) (most : ℕ) → LeadsHere g m (Some x) path here rest → parts_of rest ≡ part ∷ parts_of behind
+    → CostsAtMost g m x path most → StepCostsAtMost g m x here part most
+step_of_path g m path x here rest part behind most (taken, is, reaches) parts bound = bound taken (parts_of behind) part here (is ∙ ap (λ (ps : List (List ℕ)). taken ++ ps) parts) reaches
 
 one_part : (step count first before now all : ℕ) → now ≤ before + step → before + step * suc count ≤ first + all → now + step * count ≤ first + all
 one_part step count first before now all more so_far = omega (arith, more, so_far)
 
 -- a part that was looked up
-pub fetched : (g : Geometry) (image : Option (List ℕ)) (path : List ℕ) (here : Place) (rest part behind : List ℕ) (first before now : ℕ) → LeadsHere g image path here rest → parts_of rest ≡ part ∷ parts_of behind
-    → FetchedBy image (λ x. StepCostsAtMost g x here part) before now (λ most. 1 + most) → FetchedOn g image path rest first before → FetchedOn g image path behind first now
-fetched g None path here rest part behind first before now leads parts more so_far = tt
-fetched g (Some x) path here rest part behind first before now leads parts more so_far = λ most bound.
+pub fetched : (g : Geometry) (m : Manifest) (image : Option (List ℕ)) (path : List ℕ) (here : Place) (rest part behind : List ℕ) (first before now : ℕ) → LeadsHere g m image path here rest → parts_of rest ≡ part ∷ parts_of behind
+    → FetchedBy image (λ x. StepCostsAtMost g m x here part) before now (λ most. 1 + most) → FetchedOn g m image path rest first before → FetchedOn g m image path behind first now
+fetched g m None path here rest part behind first before now leads parts more so_far = tt
+fetched g m (Some x) path here rest part behind first before now leads parts more so_far = λ most bound.
     let one : length (parts_of rest) ≡ suc (length (parts_of behind)) = ap length parts in
-    one_part (1 + most) (length (parts_of behind)) first before now (for_parts most path) (more most (step_of_path g path x here rest part behind most leads parts bound)) (rw one at so_far most bound)
+    one_part (1 + most) (length (parts_of behind)) first before now (for_parts most path) (more most (step_of_path g m path x here rest part behind most leads parts bound)) (rw one at so_far most bound)
 
 -- all that was fetched
-pub within_path : (g : Geometry) (image : Option (List ℕ)) (path rest : List ℕ) (first now : ℕ) → FetchedOn g image path rest first now → FetchedBy image (λ x. CostsAtMost g x path) first now (λ most. for_parts most path)
-within_path g None path rest first now so_far = tt
-within_path g (Some x) path rest first now so_far = λ most bound. omega (arith, so_far most bound)
+pub within_path : (g : Geometry) (m : Manifest) (image : Option (List ℕ)) (path rest : List ℕ) (first now : ℕ) → FetchedOn g m image path rest first now → FetchedBy image (λ x. CostsAtMost g m x path) first now (λ most. for_parts most path)
+within_path g m None path rest first now so_far = tt
+within_path g m (Some x) path rest first now so_far = λ most bound. omega (arith, so_far most bound)

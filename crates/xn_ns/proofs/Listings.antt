@@ -8,7 +8,7 @@ use Rattle.std.proofs.lemmas.List.{get_or-map, length-map, map-set}
 use Rattle.std.proofs.lemmas.List.Sorted.{IsPermutation-keeps, IsPermutation-map, IsPermutation-refl, IsPermutation-swap, IsPermutation-trans}
 use Rattle.std.proofs.lemmas.Simd.{map-map}
 use Rattle.xn_bytes.specs.Directory.{IsBefore, HasNames, IsListing}
-use Rattle.xn_bytes.specs.Replies as said
+use Rattle.xn_meaning.specs.Replies as said
 use Rattle.xn_dir.specs.declared.listing.Listed.{Listed}
 use Rattle.xn_dir.specs.Listings.{entry_of, name_of}
 use Rattle.xn_dir.proofs.Names.{adjacent_map, sorted_map, rising_where_once}

@@ -7,8 +7,9 @@ use Rattle.std.proofs.lemmas.List.Elements.{All-contains}
 use Rattle.xn_bytes.specs.Entries.{Entry}
 use Rattle.xn_bytes.specs.Directory.{HasNames}
 use Rattle.xn_bytes.specs.Superblock.{Geometry}
-use Rattle.xn_bytes.specs.NameSpace.{Place, NameMap}
-use Rattle.xn_bytes.specs.Reading.{HaveName, HasMap, StandsFor, IsDirectoryIn}
+use Rattle.xn_meaning.specs.Manifests.{Manifest}
+use Rattle.xn_meaning.specs.NameSpace.{Place, NameMap}
+use Rattle.xn_meaning.specs.Reading.{HaveName, HasMap, StandsFor, IsDirectoryIn}
 
 abbrev AreNamedOnce : List Entry → Type 0
 AreNamedOnce entries = AllPairs (λ (a b : Entry). a.name ≢ b.name) entries
@@ -50,7 +51,7 @@ one_place entries name (Some a) (Some b) names of_a of_b =
     ap (λ (e : Entry). Some (record { ino = e.ino; kind = e.kind })) same
 
 -- what a name stands for in a directory of the image is what the map says
-pub as_the_map_says : (g : Geometry) (image : List ℕ) (names : NameMap) (dir : ℕ) (name : List ℕ) (found : Option Place) → HasMap g image names → IsDirectoryIn g image dir → StandsFor g image dir name found → found ≡ names dir name
-as_the_map_says g image names dir name found has directory stands =
+pub as_the_map_says : (g : Geometry) (m : Manifest) (image : List ℕ) (names : NameMap) (dir : ℕ) (name : List ℕ) (found : Option Place) → HasMap g m image names → IsDirectoryIn g m image dir → StandsFor g image dir name found → found ≡ names dir name
+as_the_map_says g m image names dir name found has directory stands =
     let held = has.holds dir directory in
     one_place held.0 name found (names dir name) held.3 (stands.among held.0 held.1 held.2) (has.says dir directory held.0 held.1 held.2 name)

@@ -7,14 +7,15 @@ use Rattle.xn_bytes.specs.Names.{IsName}
 use Rattle.xn_bytes.specs.Superblock.{Geometry}
 use Rattle.xn_bytes.specs.Inode.{inode_of}
 use Rattle.xn_bytes.specs.DirectoryRules.{HasInode, FailsBlocks}
-use Rattle.xn_bytes.specs.NameSpace.{Place as Reached, Step as Taken, part_error}
-use Rattle.xn_bytes.specs.Reading.{TakesPart, TakesInImage, IsDirectoryIn, RestsOnAll, RestsOnOne}
+use Rattle.xn_meaning.specs.Manifests.{Manifest}
+use Rattle.xn_meaning.specs.NameSpace.{Place as Reached, Step as Taken, part_error}
+use Rattle.xn_meaning.specs.Reading.{TakesPart, TakesInImage, IsDirectoryIn, RestsOnAll, RestsOnOne}
 use Rattle.xn_inode.specs.declared.fork_fault.ForkFault.{ForkFault}
 use Rattle.xn_inode.specs.declared.fork_fault.ForkFault.TheVariants as forks
 use Rattle.xn_dir.specs.declared.entry.Entry.{Entry}
 use Rattle.xn_dir.specs.Faults.{IsFaultOver}
 use Rattle.xn_dir.specs.Finding.{FindsOver, StandsOver}
-use Rattle.xn_bytes.specs.declared.errno.Errno.TheVariants.{ENOENT}
+use Rattle.xn_meaning.specs.declared.errno.Errno.TheVariants.{ENOENT}
 use Rattle.xn_bytes.specs.declared.kind.Kind.TheVariants.{Dir}
 use Rattle.xn_ns.specs.declared.sight.Sight.{Sight}
 use Rattle.xn_ns.specs.declared.sight.Sight.TheVariants as sights
@@ -103,21 +104,21 @@ weaker (Some step) (Some x) P Q on takes = on step takes
 pub rose_before : (before middle now : ℕ) → before ≤ middle → Rose middle now → Rose before now
 rose_before before middle now later rose = omega (arith, later, rose)
 
-pub directory_seen : (g : Geometry) (image : Option (List ℕ)) (ino : ℕ) (seen : Sight) → IfSome image (λ x. IsSightOf g (inode_of g x ino) ino seen) → (seen ≡ sights.Detached) ⊎ (seen ≡ sights.Attached)
-    → IfSome image (λ x. IsDirectoryIn g x ino)
-directory_seen g None ino seen is which = tt
-directory_seen g (Some x) ino seen is (inl detached) = (rw detached at is).directory
-directory_seen g (Some x) ino seen is (inr attached) = (rw attached at is).directory
+pub directory_seen : (g : Geometry) (m : Manifest) (image : Option (List ℕ)) (ino : ℕ) (seen : Sight) → IfSome image (λ x. IsSightOf g m (inode_of g x ino) ino seen) → (seen ≡ sights.Detached) ⊎ (seen ≡ sights.Attached)
+    → IfSome image (λ x. IsDirectoryIn g m x ino)
+directory_seen g m None ino seen is which = tt
+directory_seen g m (Some x) ino seen is (inl detached) = (rw detached at is).directory
+directory_seen g m (Some x) ino seen is (inr attached) = (rw attached at is).directory
 
-from_directory : (g : Geometry) (image : Option (List ℕ)) (here : Reached) (part : List ℕ) → here.kind ≡ Dir → IfSome image (λ x. IsDirectoryIn g x here.ino)
-    → IfSome image (λ x. (step : Taken) → TakesPart g x here.ino part step → TakesInImage g x here part step)
-from_directory g None here part dir directory = tt
-from_directory g (Some x) here part dir directory = λ step takes. inr (inr (dir, directory, takes))
+from_directory : (g : Geometry) (m : Manifest) (image : Option (List ℕ)) (here : Reached) (part : List ℕ) → here.kind ≡ Dir → IfSome image (λ x. IsDirectoryIn g m x here.ino)
+    → IfSome image (λ x. (step : Taken) → TakesPart g x here.ino part step → TakesInImage g m x here part step)
+from_directory g m None here part dir directory = tt
+from_directory g m (Some x) here part dir directory = λ step takes. inr (inr (dir, directory, takes))
 
 -- a part is taken from a place as from its directory
-pub taken_from : (g : Geometry) (image : Option (List ℕ)) (here : Reached) (part : List ℕ) (before middle now : ℕ) (result : Result Step SeeFault) → here.kind ≡ Dir → IfSome image (λ x. IsDirectoryIn g x here.ino) → before ≤ middle
-    → IsPartTaken g image here.ino part middle now result → IsTaken (λ x. TakesInImage g x here part) image before now result
-taken_from g image here part before middle now result dir directory later taken = record {
-  takes = weaker (taken_of result) image (λ x. TakesPart g x here.ino part) (λ x. TakesInImage g x here part) (from_directory g image here part dir directory) taken.takes;
+pub taken_from : (g : Geometry) (m : Manifest) (image : Option (List ℕ)) (here : Reached) (part : List ℕ) (before middle now : ℕ) (result : Result Step SeeFault) → here.kind ≡ Dir → IfSome image (λ x. IsDirectoryIn g m x here.ino) → before ≤ middle
+    → IsPartTaken g image here.ino part middle now result → IsTaken (λ x. TakesInImage g m x here part) image before now result
+taken_from g m image here part before middle now result dir directory later taken = record {
+  takes = weaker (taken_of result) image (λ x. TakesPart g x here.ino part) (λ x. TakesInImage g m x here part) (from_directory g m image here part dir directory) taken.takes;
   cause = IfErr-weaker result _ _ (λ fault rose is. rose_before before middle now later (rose is)) taken.cause;
 }

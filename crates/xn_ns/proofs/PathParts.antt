@@ -8,7 +8,7 @@ use Rattle.std.proofs.lemmas.Grind.{common_steps}
 use Rattle.std.proofs.lemmas.List.{drop_all, drop_more, get_or-drop, length-take, length-drop}
 use Rattle.std.proofs.lemmas.List.Quantifiers.{position-Some}
 use Rattle.memchr.specs.Find.{IsFirstByte, is_byte}
-use Rattle.xn_bytes.specs.Paths.{slash, pieces_of, parts_of}
+use Rattle.xn_meaning.specs.Paths.{slash, pieces_of, parts_of}
 
 -- ---- slashes in front
 

@@ -1,7 +1,7 @@
 -- How the reading commands end, by their results.
 use Rattle.std.specs.Prelude.{◌≡◌, ℕ, List, Option, Some, None, IfSome, Result, Ok, Err, IfErr}
 use Rattle.xn_bytes.specs.Causes.{Rose}
-use Rattle.xn_bytes.specs.NameSpace.{End, Says, Breaks}
+use Rattle.xn_meaning.specs.NameSpace.{End, Says, Breaks}
 use Rattle.xn_inode.specs.declared.store.StoreFault.{StoreFault}
 use Rattle.xn_inode.specs.declared.store.StoreFault.TheVariants as store
 use Rattle.xn_inode.specs.declared.fork_fault.ForkFault.{ForkFault}

@@ -6,8 +6,8 @@ use Rattle.std.specs.Cmp.Lexicographic.{slice_cmp}
 use Rattle.std.specs.declared.cmp.Ordering.TheVariants.{Less}
 use Rattle.xn_bytes.specs.Entries.{Entry}
 use Rattle.xn_bytes.specs.Directory.{IsListing}
-use Rattle.xn_bytes.specs.Replies.{Line, line_of}
-use Rattle.xn_bytes.specs.NameSpace.{Place}
+use Rattle.xn_meaning.specs.Replies.{Line, line_of}
+use Rattle.xn_meaning.specs.NameSpace.{Place}
 use Rattle.xn_dir.specs.declared.listing.Listed.{Listed}
 use Rattle.xn_text.specs.declared.line.ListLine.{ListLine}
 use Rattle.xn_text.specs.declared.line.ParentLine.{ParentLine}

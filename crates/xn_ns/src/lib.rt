@@ -1,4 +1,6 @@
 //! The commands that read names, over a store: the list of a directory, the walk of a path, and the parents of an inode.
+//!
+//! An inode is live where the manifest lists it and the superblock doesn't name it as one of its own.
 #![tactic(auto)]
 
 mod fault;

@@ -1,7 +1,7 @@
 //! The parts of a path, one after the other.
 
 ghost use Rattle.std.specs.Prelude.{◌≡◌, ◌∷◌, ◌<◌, ◌==◌, not, [], IfSome, MatchOption, length, position};
-ghost use Rattle.xn_bytes.specs.Paths.{parts_of, slash};
+ghost use Rattle.xn_meaning.specs.Paths.{parts_of, slash};
 
 use memchr::memchr;
 

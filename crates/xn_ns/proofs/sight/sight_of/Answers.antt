@@ -4,6 +4,7 @@ use Rattle.xn_ns.proofs.sight.sight_of.Goals.{then-ino-root, else-ino-root}
 
 pub returns-then-nlink-ne0 : goal.returns-then-nlink-ne0
 returns-then-nlink-ne0 c =
+    λ m live.
     let core = c.in-Ok.ensures in
     record {
       directory = search rules;
