@@ -1,5 +1,5 @@
 #!/usr/bin/env bash
-# Builds the program, makes two small images in the folder demo/, lists their root directories and resolves two paths.
+# Builds the program, makes three small images in the folder demo/, lists their root directories and resolves two paths.
 # Which crate is being proved is told on standard error.
 set -eu
 top=$(cd "$(dirname "$0")" && pwd)
@@ -77,3 +77,4 @@ show list demo.img demo.manifest 128
 show resolve demo.img demo.manifest '/caf\c3\a9/menu'
 show list block.img block.manifest 128
 show resolve block.img block.manifest /entry-0003
+show list sample.img sample.manifest 128

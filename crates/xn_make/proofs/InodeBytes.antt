@@ -1,5 +1,5 @@
 -- The bytes that are put into an inode, read again.
-use Rattle.std.proofs.Common.{◌≡◌, ℕ, ◌+◌, ◌-◌, ◌^◌, ◌<◌, ◌≤◌, List, [], ◌++◌, length, take, drop, refl, sym, ap, subst, ◌∙◌, arith, inl, inr}
+use Rattle.std.proofs.Common.{◌≡◌, ℕ, ◌+◌, ◌^◌, ◌<◌, ◌≤◌, List, [], ◌++◌, length, take, drop, refl, sym, ap, subst, ◌∙◌, arith, inl, inr}
 use Rattle.std.proofs.lemmas.List.{take_at, take-take, length-take, length-append, length-drop, drop-drop}
 use Rattle.std.proofs.lemmas.Slice.{drop-append-drop}
 use Rattle.byteorder.specs.Numbers.{big_number-reads_back}
@@ -8,9 +8,9 @@ use Rattle.xn_bytes.specs.Checksum.{HasChecksum}
 use Rattle.xn_bytes.specs.Inode.{HasCore, HasForks, CoreHolds, data_fork_of, attr_fork_of}
 use Rattle.xn_bytes.specs.Directory.{short_bytes_of, HasShortSize}
 use Rattle.xn_make.specs.Fixed.{small_uuid, no_attributes}
-use Rattle.xn_make.specs.SpelledInodes.{blank_inode, inode_bytes, IsInodeSpelled}
+use Rattle.xn_make.specs.SpelledInodes.{blank_inode, inode_bytes, IsInodeSpelled, directory_numbers, file_numbers}
 use Rattle.xn_make.specs.declared.inodes.CoreNumbers.{CoreNumbers}
-use Rattle.xn_make.specs.Images.{directory_core, regular_core, IsSmallDirectory, IsSmallRegular}
+use Rattle.xn_make.specs.Images.{directory_core, file_core, IsShortDirectory, IsEmptyFile}
 
 -- what stands from 176 on
 abbrev from_forks : List ℕ → List ℕ
@@ -63,18 +63,15 @@ attributes core checksum fork l =
 
 -- ---- a directory in short form
 
-abbrev short_numbers : ℕ → ℕ → ℕ → CoreNumbers
-short_numbers number links size = record { number = number; mode = 0x4000; format = 1; links = links; size = size; block_count = 0; extent_count = 0; generation = 1 }
-
-short_fields : (number links checksum : ℕ) (form : List ℕ) → length form ≤ 192 → links < 2 ^ 32 → CoreHolds (inode_bytes (short_numbers number links (length form)) form checksum) (directory_core links (length form))
+short_fields : (number age links checksum : ℕ) (form : List ℕ) → length form ≤ 192 → links < 2 ^ 32 → age < 2 ^ 32 → CoreHolds (inode_bytes (directory_numbers number age links (length form)) form checksum) (directory_core age links (length form))
 unfolding number_at
-short_fields number links checksum form l few = record {
+short_fields number age links checksum form l few young = record {
   kind = refl;
   permissions = refl;
-  nlink = sym (link_count (short_numbers number links (length form)) checksum form few);
-  size = sym (size (short_numbers number links (length form)) checksum form (omega arith));
+  nlink = sym (link_count (directory_numbers number age links (length form)) checksum form few);
+  size = sym (size (directory_numbers number age links (length form)) checksum form (omega arith));
   nblocks = refl;
-  generation = refl;
+  generation = sym (generation (directory_numbers number age links (length form)) checksum form young);
   fork_offset = refl;
   data_format = refl;
   attr_format = refl;
@@ -83,60 +80,58 @@ short_fields number links checksum form l few = record {
   attr_extents = refl;
 }
 
-short_forks : (number links checksum : ℕ) (form : List ℕ) → length form ≤ 192 → HasForks (inode_bytes (short_numbers number links (length form)) form checksum)
+short_forks : (number age links checksum : ℕ) (form : List ℕ) → length form ≤ 192 → HasForks (inode_bytes (directory_numbers number age links (length form)) form checksum)
 unfolding number_at
-short_forks number links checksum form l = record {
+short_forks number age links checksum form l = record {
   kind = refl;
-  offset = omega (arith, length-inode (short_numbers number links (length form)) checksum form l);
+  offset = omega (arith, length-inode (directory_numbers number age links (length form)) checksum form l);
   directory = λ e. inl refl;
   attribute = λ e. inl refl;
 }
 
-short_bytes : (number links checksum : ℕ) (form : List ℕ) → length form ≤ 192 → short_bytes_of (inode_bytes (short_numbers number links (length form)) form checksum) ≡ form
-short_bytes number links checksum form l =
-    let core = short_numbers number links (length form) in
+short_bytes : (number age links checksum : ℕ) (form : List ℕ) → length form ≤ 192 → short_bytes_of (inode_bytes (directory_numbers number age links (length form)) form checksum) ≡ form
+short_bytes number age links checksum form l =
+    let core = directory_numbers number age links (length form) in
     let inode = inode_bytes core form checksum in
     ap (λ (n : ℕ). take n (data_fork_of inode)) (size core checksum form (omega arith))
     ∙ ap (take (length form)) (data_fork core checksum form)
     ∙ take-take (length form) 192 (from_forks form) l
     ∙ take_at form (drop (176 + length form) blank_inode) (length form) refl
 
-short_size : (number links checksum : ℕ) (form : List ℕ) → length form ≤ 192 → HasShortSize (inode_bytes (short_numbers number links (length form)) form checksum)
-short_size number links checksum form l =
-    let core = short_numbers number links (length form) in
+short_size : (number age links checksum : ℕ) (form : List ℕ) → length form ≤ 192 → HasShortSize (inode_bytes (directory_numbers number age links (length form)) form checksum)
+short_size number age links checksum form l =
+    let core = directory_numbers number age links (length form) in
     let forks = from_forks form in
     omega (arith, size core checksum form (omega arith), ap length (data_fork core checksum form), length-take 192 forks, length-append form (drop (176 + length form) blank_inode))
 
-pub small_directory : (inode : List ℕ) (number links : ℕ) (form : List ℕ) → IsInodeSpelled inode (short_numbers number links (length form)) form → HasChecksum inode 100 → length form ≤ 192 → number < 2 ^ 64 → links < 2 ^ 32
-    → IsSmallDirectory inode number links form
-small_directory inode number links form spelled h l small few =
+pub short_directory_made : (inode : List ℕ) (number age links : ℕ) (form : List ℕ) → IsInodeSpelled inode (directory_numbers number age links (length form)) form → HasChecksum inode 100 → length form ≤ 192 → number < 2 ^ 64 → age < 2 ^ 32 → links < 2 ^ 32
+    → IsShortDirectory inode number age links form
+short_directory_made inode number age links form spelled h l small young few =
     let checksum = spelled.0 in
-    let core = short_numbers number links (length form) in
-    let P : List ℕ → Type 0 = λ (xs : List ℕ). IsSmallDirectory xs number links form in
+    let core = directory_numbers number age links (length form) in
+    let P : List ℕ → Type 0 = λ (xs : List ℕ). IsShortDirectory xs number age links form in
     let Q : List ℕ → Type 0 = λ (xs : List ℕ). HasChecksum xs 100 in
     subst P (sym spelled.1) (record {
       core = has_core core checksum form l small (subst Q spelled.1 h);
-      fields = short_fields number links checksum form l few;
-      forks = short_forks number links checksum form l;
-      size = short_size number links checksum form l;
-      short_bytes = short_bytes number links checksum form l;
+      fields = short_fields number age links checksum form l few young;
+      forks = short_forks number age links checksum form l;
+      size = short_size number age links checksum form l;
+      short_bytes = short_bytes number age links checksum form l;
       attributes = attributes core checksum form l;
+      spelled = (checksum, refl);
     })
 
 -- ---- a regular file
 
-abbrev regular_numbers : ℕ → CoreNumbers
-regular_numbers number = record { number = number; mode = 0x8000; format = 2; links = 1; size = 0; block_count = 0; extent_count = 0; generation = number - 127 }
-
-regular_fields : (number checksum : ℕ) → number < 2 ^ 32 → CoreHolds (inode_bytes (regular_numbers number) [] checksum) (regular_core number)
+file_fields : (number age links checksum : ℕ) → age < 2 ^ 32 → links < 2 ^ 32 → CoreHolds (inode_bytes (file_numbers number age links) [] checksum) (file_core age links)
 unfolding number_at
-regular_fields number checksum small = record {
+file_fields number age links checksum young few = record {
   kind = refl;
   permissions = refl;
-  nlink = refl;
+  nlink = sym (link_count (file_numbers number age links) checksum [] few);
   size = refl;
   nblocks = refl;
-  generation = sym (generation (regular_numbers number) checksum [] (omega arith));
+  generation = sym (generation (file_numbers number age links) checksum [] young);
   fork_offset = refl;
   data_format = refl;
   attr_format = refl;
@@ -145,24 +140,26 @@ regular_fields number checksum small = record {
   attr_extents = refl;
 }
 
-regular_forks : (number checksum : ℕ) → HasForks (inode_bytes (regular_numbers number) [] checksum)
+file_forks : (number age links checksum : ℕ) → HasForks (inode_bytes (file_numbers number age links) [] checksum)
 unfolding number_at
-regular_forks number checksum = record {
+file_forks number age links checksum = record {
   kind = refl;
-  offset = omega (arith, length-inode (regular_numbers number) checksum [] (omega arith));
+  offset = omega (arith, length-inode (file_numbers number age links) checksum [] (omega arith));
   directory = λ e. inr refl;
   attribute = λ e. inl refl;
 }
 
-pub small_regular : (inode : List ℕ) (number : ℕ) → IsInodeSpelled inode (regular_numbers number) [] → HasChecksum inode 100 → number < 2 ^ 32 → IsSmallRegular inode number
-small_regular inode number spelled h small =
+pub empty_file_made : (inode : List ℕ) (number age links : ℕ) → IsInodeSpelled inode (file_numbers number age links) [] → HasChecksum inode 100 → number < 2 ^ 64 → age < 2 ^ 32 → links < 2 ^ 32
+    → IsEmptyFile inode number age links
+empty_file_made inode number age links spelled h small young few =
     let checksum = spelled.0 in
-    let core = regular_numbers number in
-    let P : List ℕ → Type 0 = λ (xs : List ℕ). IsSmallRegular xs number in
+    let core = file_numbers number age links in
+    let P : List ℕ → Type 0 = λ (xs : List ℕ). IsEmptyFile xs number age links in
     let Q : List ℕ → Type 0 = λ (xs : List ℕ). HasChecksum xs 100 in
     subst P (sym spelled.1) (record {
-      core = has_core core checksum [] (omega arith) (omega arith) (subst Q spelled.1 h);
-      fields = regular_fields number checksum small;
-      forks = regular_forks number checksum;
+      core = has_core core checksum [] (omega arith) small (subst Q spelled.1 h);
+      fields = file_fields number age links checksum young few;
+      forks = file_forks number age links checksum;
       attributes = attributes core checksum [] (omega arith);
+      spelled = (checksum, refl);
     })

@@ -6,3 +6,6 @@ pub mod Laying
 pub mod BlocksMade
 pub mod WholeImages
 pub mod BlockImages
+pub mod SampleImages
+pub mod SampleManifests
+pub mod SampleSound

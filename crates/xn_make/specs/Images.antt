@@ -1,9 +1,11 @@
--- The small images that are made for demonstrations and tests: one group of 576 blocks of 8 sectors, the log in its
--- last 512, and a root directory in short form or in block form.
+-- The images that are made for demonstrations and tests: one group of blocks of 8 sectors with the log in its last 512.
+-- The small ones have 576 blocks, and a root directory in short form or in block form.
 use Rattle.std.specs.Prelude.{◌≡◌, ◌≢◌, ℕ, ◌+◌, ◌-◌, ◌*◌, ◌<◌, ◌≤◌, false, List, [], ◌∷◌, length, take, slice_range, replicate, codes}
 use Rattle.xn_make.specs.Directories.{IsDirectoryBlock}
 use Rattle.xn_bytes.specs.Entries.{Entry}
 use Rattle.xn_make.specs.Fixed.{small_uuid, no_attributes}
+use Rattle.xn_make.specs.SpelledInodes.{IsInodeSpelled, directory_numbers, file_numbers}
+use Rattle.xn_make.specs.SpelledSuperblocks.{IsSuperblockSpelled, block_bits}
 use Rattle.xn_bytes.specs.declared.kind.Kind.TheVariants.{Dir, Reg}
 use Rattle.xn_bytes.specs.Numbers.{number_at, sector_of}
 use Rattle.xn_bytes.specs.Superblock.{Geometry, IsSuperblock, geometry_of, ftype_bit, parent_bit}
@@ -16,14 +18,14 @@ use Rattle.xn_bytes.specs.Directory.{HasShortSize, short_bytes_of}
 abbrev pub small_sectors : ℕ
 small_sectors = 4608
 
--- the sizes of every image, in blocks, and its places; of the own inodes it has none
-abbrev pub small_geometry : Geometry
-small_geometry = record {
-  data_blocks = 576;
-  ag_blocks = 576;
+-- the sizes and places, in blocks, of an image with so many blocks in front of its log; of the own inodes it has none
+abbrev pub image_geometry : ℕ → Geometry
+image_geometry log_start = record {
+  data_blocks = log_start + 512;
+  ag_blocks = log_start + 512;
   ag_count = 1;
-  ag_block_log = 10;
-  log_start = 64;
+  ag_block_log = block_bits (log_start + 512);
+  log_start = log_start;
   log_blocks = 512;
   root = 128;
   sparse = false;
@@ -32,24 +34,29 @@ small_geometry = record {
   own_inodes = replicate 5 0;
 }
 
--- sector 0 of an image: an accepted superblock with that geometry, and of the incompatible features the two that have to
--- be there
-pub record IsSmallSuperblock (bytes : List ℕ) : Type 0 where
+-- Sector 0 of an image with so many blocks in front of its log: an accepted superblock with that geometry, and of the
+-- incompatible features the two that have to be there.
+pub record IsImageSuperblock (bytes : List ℕ) (log_start : ℕ) : Type 0 where
   pub whole : length bytes ≡ 512
-  pub accepted : IsSuperblock bytes small_sectors
-  pub geometry : geometry_of bytes ≡ small_geometry
+  pub accepted : IsSuperblock bytes (8 * (log_start + 512))
+  pub geometry : geometry_of bytes ≡ image_geometry log_start
   pub features : number_at 4 216 bytes ≡ ftype_bit + parent_bit
+  pub spelled : IsSuperblockSpelled bytes log_start
 
--- what the core says of a directory with so many links whose short form has so many bytes: no blocks, its first
--- generation, and both forks in the inode, the second 192 bytes behind the first
-abbrev pub directory_core : ℕ → ℕ → CoreFields
-directory_core links size = record {
+-- that of a small image
+abbrev pub IsSmallSuperblock : List ℕ → Type 0
+IsSmallSuperblock bytes = IsImageSuperblock bytes 64
+
+-- what the core says of a directory with so many links whose short form has so many bytes: no blocks, and both forks in the
+-- inode, the second 192 bytes behind the first
+abbrev pub directory_core : ℕ → ℕ → ℕ → CoreFields
+directory_core generation links size = record {
   kind = Dir;
   permissions = 0;
   nlink = links;
   size = size;
   nblocks = 0;
-  generation = 1;
+  generation = generation;
   fork_offset = 24;
   data_format = local_format;
   attr_format = local_format;
@@ -58,14 +65,19 @@ directory_core links size = record {
   attr_extents = 0;
 }
 
--- a directory's inode with so many links and that short form, and with no attributes
-pub record IsSmallDirectory (inode : List ℕ) (number links : ℕ) (form : List ℕ) : Type 0 where
+-- a directory's inode of a generation with so many links and that short form, and with no attributes
+pub record IsShortDirectory (inode : List ℕ) (number generation links : ℕ) (form : List ℕ) : Type 0 where
   pub core : HasCore inode number small_uuid
-  pub fields : CoreHolds inode (directory_core links (length form))
+  pub fields : CoreHolds inode (directory_core generation links (length form))
   pub forks : HasForks inode
   pub size : HasShortSize inode
   pub short_bytes : short_bytes_of inode ≡ form
   pub attributes : take 4 (attr_fork_of inode) ≡ no_attributes
+  pub spelled : IsInodeSpelled inode (directory_numbers number generation links (length form)) form
+
+-- one of the first generation
+abbrev pub IsSmallDirectory : List ℕ → ℕ → ℕ → List ℕ → Type 0
+IsSmallDirectory inode number links form = IsShortDirectory inode number 1 links form
 
 -- what the core says of a directory in block form: two links, one block, which its one extent maps
 abbrev pub block_directory_core : ℕ → CoreFields
@@ -93,15 +105,15 @@ pub record IsBlockDirectoryInode (inode : List ℕ) (number block : ℕ) : Type 
   pub runs : data_runs_of inode ≡ record { file_block = 0; block = block; count = 1 } ∷ []
   pub attributes : take 4 (attr_fork_of inode) ≡ no_attributes
 
--- what the core says of a regular file with one link and no blocks
-abbrev pub regular_core : ℕ → CoreFields
-regular_core number = record {
+-- what the core says of a regular file with so many links and no blocks
+abbrev pub file_core : ℕ → ℕ → CoreFields
+file_core generation links = record {
   kind = Reg;
   permissions = 0;
-  nlink = 1;
+  nlink = links;
   size = 0;
   nblocks = 0;
-  generation = number - 127;
+  generation = generation;
   fork_offset = 24;
   data_format = extents_format;
   attr_format = local_format;
@@ -110,12 +122,17 @@ regular_core number = record {
   attr_extents = 0;
 }
 
--- a regular file's inode with no blocks, and with no attributes
-pub record IsSmallRegular (inode : List ℕ) (number : ℕ) : Type 0 where
+-- a regular file's inode of a generation with so many links and no blocks, and with no attributes
+pub record IsEmptyFile (inode : List ℕ) (number generation links : ℕ) : Type 0 where
   pub core : HasCore inode number small_uuid
-  pub fields : CoreHolds inode (regular_core number)
+  pub fields : CoreHolds inode (file_core generation links)
   pub forks : HasForks inode
   pub attributes : take 4 (attr_fork_of inode) ≡ no_attributes
+  pub spelled : IsInodeSpelled inode (file_numbers number generation links) []
+
+-- one with one link, whose generation is counted from the root's
+abbrev pub IsSmallRegular : List ℕ → ℕ → Type 0
+IsSmallRegular inode number = IsEmptyFile inode number (number - 127) 1
 
 -- so many sectors of zeros
 pub record IsBlank (image : List ℕ) (sectors : ℕ) : Type 0 where

@@ -27,6 +27,15 @@ inode_bytes core fork checksum = overlaid (inode_fields core fork) 100 (little_b
 abbrev pub IsInodeSpelled : List ℕ → CoreNumbers → List ℕ → Type 0
 IsInodeSpelled inode core fork = (checksum : ℕ) × (inode ≡ inode_bytes core fork checksum)
 
+-- what is put for a directory in short form, and for an empty regular file
+abbrev pub directory_numbers : ℕ → ℕ → ℕ → ℕ → CoreNumbers
+directory_numbers number generation links size =
+    record { number = number; mode = 0x4000; format = 1; links = links; size = size; block_count = 0; extent_count = 0; generation = generation }
+
+abbrev pub file_numbers : ℕ → ℕ → ℕ → CoreNumbers
+file_numbers number generation links =
+    record { number = number; mode = 0x8000; format = 2; links = links; size = 0; block_count = 0; extent_count = 0; generation = generation }
+
 -- the one extent of file block 0, at a block
 abbrev pub extent_bytes : ℕ → List ℕ
 extent_bytes block = replicate 8 0 ++ big_bytes 8 (block * 2 ^ 21 + 1)

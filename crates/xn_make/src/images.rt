@@ -71,10 +71,13 @@ const FILES: [Named<'static>; 11] = [
 ];
 
 /// A directory in short form with no entries, and parent 128.
-const EMPTY: [u8; 6] = [0, 0, 0, 0, 0, 128];
+pub const EMPTY: [u8; 6] = [0, 0, 0, 0, 0, 128];
 
 /// The number of a directory that no entry names.
 const DETACHED: u64 = 129;
+
+/// The first block of the log of a small image.
+const LOG_START: u32 = 64;
 
 /// How many bytes a block has.
 const BLOCK: usize = 4096;
@@ -107,7 +110,7 @@ fn fill_with_block(image: &mut [u8], block: &[u8])
     ensures made { IsBlockImage image.new }
     ensures length { length image.new ≡ length image.old }
 {
-    put_sector(image, 0, &superblock());
+    put_sector(image, 0, &superblock(LOG_START));
     put_inodes(image);
     put_bytes(image, BLOCK * DIRECTORY_BLOCK as usize, block);
 }
@@ -146,12 +149,12 @@ fn fill(image: &mut [u8], form: &[u8])
     ensures made { IsSmallImage image.new form.now }
     ensures length { length image.new ≡ length image.old }
 {
-    put_sector(image, 0, &superblock());
+    put_sector(image, 0, &superblock(LOG_START));
     put_sector(image, ROOT_SECTOR as usize, &directory_inode(ROOT, 2, form));
 }
 
 /// So many sectors of zeros.
-fn blank(alloc: Global, sectors: usize) -> Result<Vec<u8>, Memory>
+pub fn blank(alloc: Global, sectors: usize) -> Result<Vec<u8>, Memory>
     requires { 512 * sectors < 2 ^ 63 }
     ensures { IfOk result (λ image. IsBlank image.items sectors) }
 {

@@ -2,7 +2,7 @@
 
 ghost use Rattle.std.specs.Prelude.{◌≡◌, ◌+◌, ◌-◌, ◌^◌, ◌<◌, ◌≤◌, length};
 ghost use Rattle.xn_bytes.specs.Checksum.{HasChecksum};
-ghost use Rattle.xn_make.specs.Images.{IsSmallDirectory, IsSmallRegular, IsBlockDirectoryInode};
+ghost use Rattle.xn_make.specs.Images.{IsShortDirectory, IsEmptyFile, IsSmallDirectory, IsSmallRegular, IsBlockDirectoryInode};
 ghost use Rattle.xn_make.specs.SpelledInodes.{IsInodeSpelled, extent_bytes};
 
 use crate::UUID;
@@ -51,6 +51,14 @@ pub fn directory_inode(number: u64, links: u32, form: &[u8]) -> [u8; 512]
     requires { length form.now ≤ DATA_FORK }
     ensures { IsSmallDirectory result number links form.now }
 {
+    short_directory(number, 1, links, form)
+}
+
+/// The same with a generation.
+pub fn short_directory(number: u64, generation: u32, links: u32, form: &[u8]) -> [u8; 512]
+    requires { length form.now ≤ DATA_FORK }
+    ensures { IsShortDirectory result number generation links form.now }
+{
     let core = CoreNumbers {
         number,
         mode: DIRECTORY,
@@ -59,7 +67,7 @@ pub fn directory_inode(number: u64, links: u32, form: &[u8]) -> [u8; 512]
         size: form.len() as u64,
         block_count: 0,
         extent_count: 0,
-        generation: 1,
+        generation,
     };
     inode(core, form)
 }
@@ -90,15 +98,22 @@ pub fn regular_inode(number: u64) -> [u8; 512]
     requires generation { number < 2 ^ 32 }
     ensures { IsSmallRegular result number }
 {
+    empty_file(number, (number - FIRST) as u32, 1)
+}
+
+/// The same with a generation and so many links.
+pub fn empty_file(number: u64, generation: u32, links: u32) -> [u8; 512]
+    ensures { IsEmptyFile result number generation links }
+{
     let core = CoreNumbers {
         number,
         mode: REGULAR,
         format: EXTENTS,
-        links: 1,
+        links,
         size: 0,
         block_count: 0,
         extent_count: 0,
-        generation: (number - FIRST) as u32,
+        generation,
     };
     inode(core, &[])
 }

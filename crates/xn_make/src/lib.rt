@@ -1,4 +1,5 @@
-//! Small images for demonstrations and tests: a superblock, and a root directory in short form or in block form.
+//! Images for demonstrations and tests: a superblock, and a root directory in short form or in block form, or a sample of many
+//! inodes with a pool of free blocks.
 #![tactic(auto)]
 
 mod blocks;
@@ -6,16 +7,21 @@ mod images;
 mod inodes;
 mod layout;
 mod pieces;
+mod samples;
 mod superblocks;
 
 pub use blocks::{Named, block_directory};
 pub use images::{block_image, image};
 pub use inodes::{DATA_FORK, directory_in_block, directory_inode, regular_inode};
 pub use layout::{Gap, Leaf, push_entry, push_gap, push_leaves};
+pub use samples::sample;
 pub use superblocks::superblock;
 
-/// How many sectors of 512 bytes an image has: one group of 576 blocks, the last 512 of them the log.
+/// How many sectors of 512 bytes a small image has: one group of 576 blocks, the last 512 of them the log.
 pub const SECTORS: u64 = 4608;
+
+/// How many blocks the log of an image has.
+pub const LOG_BLOCKS: u32 = 512;
 
 /// The root directory's inode number. It stands in block 16.
 pub const ROOT: u64 = 128;

@@ -190,7 +190,7 @@ fn change_whole(alloc: Global, image: &mut Vec<u8>, word: &str) -> Result<bool, 
         Some(("file", number)) => put_file(image, number.parse()?)?,
         Some(("attributes", spelled)) => put_attributes(alloc, image, spelled)?,
         Some(("sectors", count)) => image.truncate(SECTOR * count.parse::<u32>()? as usize),
-        Some(("fails", _)) => {}
+        Some(("fails" | "manifest", _)) => {}
         _ => return Ok(false),
     }
     Ok(true)

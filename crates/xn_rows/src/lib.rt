@@ -48,11 +48,16 @@
 //! | `PLACE=BYTES` | puts the bytes at a place; but for `raw` the checksum of what was changed is then right |
 //! | `sectors:COUNT` | cuts the image to so many sectors |
 //! | `fails:CALL` | nothing: the device's call of this number fails, counted from 1 |
+//! | `manifest:TEXT` | nothing: the manifest has this text |
 //!
 //! LIST has attributes parted by `,`, each of which is FLAGS`/`NAME`/`VALUE: the flags as a decimal number, without the bit that
 //! says where the value stands, and name and value as BYTES. Where the value has blocks of its own VALUE is BLOCK`/`LENGTH, two
 //! decimal numbers. `twenty` is the LIST of twenty parent records and of an attribute with a value elsewhere. The one leaf, or
 //! the root of the tree, is block 24, and the leaves below it are the blocks from 25 on; one extent maps all of them.
+//!
+//! TEXT is BYTES in which `_` between `'` stands for a space, and `/` for a newline, after `{n*255}` is 255 times `n`, as in the
+//! words: `manifest:'xfsns-manifest_1/chunk_128_0000000000000000/pool_512_64/'`. Other bytes, `_`, `/` and `=` as they are, are
+//! spelled as digits. Without the word the manifest lists all inodes in blocks 8 to 63 and has no pool.
 //!
 //! **The answer** is the exit status, and the lines that are told, parted by ` / `.
 #![tactic(auto)]
@@ -65,6 +70,7 @@ mod fork;
 mod full;
 mod hashed;
 mod images;
+mod manifests;
 mod pieces;
 mod row;
 mod spelling;
@@ -73,5 +79,6 @@ mod words;
 
 pub use fault::RowFault;
 pub use images::image;
+pub use manifests::manifest;
 pub use row::Row;
 pub use spelling::bytes;

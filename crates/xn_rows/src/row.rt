@@ -3,7 +3,7 @@
 ghost use Rattle.std.specs.Prelude.{◌≡◌, ◌%◌, length, IfOk};
 
 use crate::words::words_of;
-use crate::{RowFault, image};
+use crate::{RowFault, image, manifest};
 use std::alloc::Global;
 
 /// A row: what the program is run on, and what it has to answer.
@@ -43,6 +43,11 @@ impl<'a> Row<'a> {
         ensures { IfOk result (λ image. length image.items % 512 ≡ 0) }
     {
         image(alloc, self.image)
+    }
+
+    /// The text of its manifest.
+    pub fn manifest(&self, alloc: Global) -> Result<Vec<u8>, RowFault> {
+        manifest(alloc, self.image)
     }
 
     /// The numbers of the device's calls that fail.

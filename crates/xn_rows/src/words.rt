@@ -13,7 +13,7 @@ pub fn words_of(alloc: Global, field: &str) -> Result<Vec<String>, RowFault> {
 }
 
 /// A word with what its braces stand for.
-fn spelled(alloc: Global, text: &str) -> Result<String, RowFault> {
+pub fn spelled(alloc: Global, text: &str) -> Result<String, RowFault> {
     let mut word = String::new(alloc);
     for piece in text.split('{') {
         match piece.split_once('}') {

@@ -1,7 +1,7 @@
 use std::process::Abort;
 use std::test::Fail;
 use xn_bytes::{has_checksum, u8_at, u16_at, u32_at, u64_at};
-use xn_make::{block_image, directory_in_block, image, regular_inode};
+use xn_make::{block_image, directory_in_block, image, regular_inode, sample};
 
 /// Where the root directory's block begins and ends.
 const START: usize = 163_840;
@@ -62,4 +62,60 @@ fn inodes(rt: HostRuntime) {
     assert_eq!(rt; u8_at(&file, 5), 2);
     assert_eq!(rt; u32_at(&file, 92), 19);
     assert_eq!(rt; u64_at(&file, 152), 146);
+}
+
+/// What stands in the sample of 64 inodes and a pool of 64 blocks. Of the superblock: the blocks, the log's first, the root,
+/// those of the group, the groups, the log's blocks, and the bits of a block's number. Of inode 128: magic number, mode, version
+/// and format, links, size, and generation; its form, and its attributes. The last directory is 143, and 144 a file. Behind the
+/// inodes, and in the log, stand zeros.
+const SAMPLE_PIECES: [(usize, &[u8]); 16] = [
+    (8, &[0, 0, 0, 0, 0, 0, 0x04, 0x40]),
+    (48, &[0, 0, 0, 0, 0, 0, 0x02, 0x40]),
+    (56, &[0, 0, 0, 0, 0, 0, 0, 128]),
+    (84, &[0, 0, 0x04, 0x40, 0, 0, 0, 1]),
+    (96, &[0, 0, 0x02, 0]),
+    (123, &[3, 11]),
+    (65_536, b"IN\x40\x00\x03\x01"),
+    (65_552, &[0, 0, 0, 2]),
+    (65_592, &[0, 0, 0, 0, 0, 0, 0, 6]),
+    (65_628, &[0, 0, 0, 1]),
+    (65_712, &[0, 0, 0, 0, 0, 128]),
+    (65_904, &[0, 4, 0, 0]),
+    (73_216, b"IN\x40\x00\x03\x01"),
+    (73_728, b"IN\x80\x00\x03\x02"),
+    (73_820, &[0, 0, 0, 17]),
+    (98_304, &[0; 512]),
+];
+
+#[test]
+fn a_sample(rt: HostRuntime) -> Result<(), Fail> {
+    let alloc = rt.alloc();
+    let (image, manifest) = sample(alloc, 64, 64)?;
+    assert_eq!(rt; image.len(), 4096 * 1088);
+    for (at, wanted) in SAMPLE_PIECES {
+        assert!(rt; stands(&image, at, wanted), "at {at}");
+    }
+    let log = image.get(4096 * 576..).ok_or("the log")?;
+    assert!(rt; log.iter().all(|byte| *byte == 0));
+    let mut text = Vec::new(alloc);
+    manifest.write(alloc, &mut text)?;
+    assert_eq!(rt;
+        text.as_slice(),
+        b"xfsns-manifest 1\nchunk 128 0000000000000000\npool 512 64\n".as_slice()
+    );
+    Ok(())
+}
+
+/// The first and the last directory, and the first and the last file.
+#[test]
+fn inodes_of_a_sample(rt: HostRuntime) -> Result<(), Fail> {
+    let (image, _) = sample(rt.alloc(), 64, 64)?;
+    for (place, generation) in [(128, 1), (143, 16), (144, 17), (191, 64)] {
+        let inode = image.get(512 * place..512 * place + 512);
+        let inode = inode.ok_or("an inode")?;
+        assert!(rt; has_checksum(inode, 100), "inode {place}");
+        assert_eq!(rt; u64_at(inode, 152), place as u64);
+        assert_eq!(rt; u32_at(inode, 92), generation);
+    }
+    Ok(())
 }

@@ -1,6 +1,6 @@
 use std::test::Fail;
 use xn_bytes::has_checksum;
-use xn_rows::{Row, RowFault, bytes, image};
+use xn_rows::{Row, RowFault, bytes, image, manifest};
 
 #[test]
 fn a_row(rt: HostRuntime) -> Result<(), Fail> {
@@ -19,6 +19,23 @@ fn a_row(rt: HostRuntime) -> Result<(), Fail> {
     assert!(rt; Row::read("# none")?.is_none());
     assert!(rt; Row::read(" ")?.is_none());
     assert_eq!(rt; Row::read("list | none").err(), Some(RowFault::Fields));
+    Ok(())
+}
+
+/// A manifest that is spelled, and the one that lists the inodes in blocks 8 to 63.
+#[test]
+fn manifests(rt: HostRuntime) -> Result<(), Fail> {
+    let alloc = rt.alloc();
+    let line = "list | block manifest:'xfsns-manifest_1/pool_{1*3}'2f5f0d'/' 19=00 | 0";
+    let row = Row::read(line)?.ok_or("a row")?;
+    assert_eq!(rt;
+        row.manifest(alloc)?.as_slice(),
+        b"xfsns-manifest 1\npool 111/_\r\n".as_slice()
+    );
+    assert_eq!(rt; row.image(alloc)?.len(), 512 * 4608);
+    let text = manifest(alloc, "block fails:3")?;
+    assert!(rt; text.starts_with(b"xfsns-manifest 1\nchunk 64 0000000000000000\nchunk 128 "));
+    assert!(rt; text.ends_with(b"\nchunk 448 0000000000000000\n"));
     Ok(())
 }
 
