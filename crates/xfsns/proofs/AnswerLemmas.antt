@@ -2,15 +2,18 @@
 use Rattle.std.proofs.Common.{◌≡◌, ◌≢◌, ℕ, ◌+◌, ◌*◌, ◌≤◌, List, length, codes, Option, Some, None, inl, inr, ap, subst, arith}
 use Rattle.std.specs.Prelude.{IfSome, decimal, slice_index}
 use Rattle.std.proofs.lemmas.Fmt.{decimal_injective}
-use Rattle.xn_bytes.specs.declared.status.Status.{Status}
+use Rattle.xn_meaning.specs.declared.status.Status.{Status}
+use Rattle.xn_meaning.specs.declared.status.Status.TheVariants.{Image}
+use Rattle.xn_meaning.specs.Manifests.{Manifest, HasPlaces}
+use Rattle.xn_meaning.specs.Replies.{image_line}
 use Rattle.xn_bytes.specs.Escapes.{escaped}
 use Rattle.xn_bytes.specs.Superblock.{Geometry}
-use Rattle.xn_bytes.specs.Words.{AsksOf, AsksList, AsksResolve, AsksParents, AsksNothing}
-use Rattle.xn_bytes.specs.Paths.{parts_of}
-use Rattle.xn_bytes.specs.NameSpace.{End}
-use Rattle.xn_bytes.specs.Outcome.{Answers, Reads, geometry_in}
+use Rattle.xn_meaning.specs.Words.{AsksOf, AsksList, AsksResolve, AsksParents, AsksNothing}
+use Rattle.xn_meaning.specs.Paths.{parts_of}
+use Rattle.xn_meaning.specs.NameSpace.{End}
+use Rattle.xn_meaning.specs.Outcome.{Answers, Reads, ReadsImage, IsManifestIn, geometry_in}
 use Rattle.xn_bytes.specs.Inode.{inode_of}
-use Rattle.xn_bytes.specs.Reading.{IsAttached}
+use Rattle.xn_meaning.specs.Reading.{IsAttached}
 use Rattle.xn_bytes.specs.Costs.{list_cost}
 use Rattle.xn_attr.specs.Costs.{list_most}
 use Rattle.xn_bytes.proofs.EscapeLemmas.{one_text}
@@ -18,22 +21,29 @@ use Rattle.xn_text.specs.declared.words.Words.{Words}
 use Rattle.xn_text.specs.declared.words.Words.TheVariants as commands
 use Rattle.xn_text.specs.Asked.{AsksFor}
 use Rattle.xfsns.specs.Home.{FindsSuper}
-use Rattle.xfsns.specs.Answer.{EndsWith, IsAnswerTo, ReadsFor, ReadsAtMost, ListReads, RefusedReads, ResolveReads, ParentsReads}
+use Rattle.xfsns.specs.Answer.{EndsWith, IsAnswerTo, ReadsFor, CommandReads, ReadsAtMost, ListReads, RefusedReads, ResolveReads, ParentsReads}
 
--- the answer to an end that a command has over the image whose superblock was found
-pub over_image : (E : Geometry → List ℕ → End → Type 0) (image : Option (List ℕ)) (g : Geometry) (ended : Option End) (status : Status) (text : List ℕ)
-    → FindsSuper image (Some g) → IfSome ended (λ end. IfSome image (λ x. E g x end)) → IsAnswerTo ended status text → Reads E image status text
-over_image E image g None status text found ends answer = absurd answer
-over_image E None g (Some end) status text found ends answer = inr (end, answer.0, answer.1, tt)
-over_image E (Some x) g (Some end) status text found ends answer =
-    inr (end, answer.0, answer.1, (found.0, subst (λ (h : Geometry). E h x end) found.1 ends))
+-- the answer to an end that a command has over the image whose superblock was found, by a manifest whose places are right
+pub over_image : (E : Geometry → Manifest → List ℕ → End → Type 0) (m : Manifest) (image : Option (List ℕ)) (g : Geometry) (ended : Option End) (status : Status) (text : List ℕ)
+    → FindsSuper image (Some g) → HasPlaces g m → IfSome ended (λ end. IfSome image (λ x. E g m x end)) → IsAnswerTo ended status text → ReadsImage E m image status text
+over_image E m image g None status text found places ends answer = absurd answer
+over_image E m None g (Some end) status text found places ends answer = inr (inr (end, answer.0, answer.1, tt))
+over_image E m (Some x) g (Some end) status text found places ends answer =
+    inr (inr (end, answer.0, answer.1, (found.0, subst (λ (h : Geometry). HasPlaces h m) found.1 places, subst (λ (h : Geometry). E h m x end) found.1 ends)))
+
+-- rule 2 is broken where a place is not right
+pub out_of_place : (E : Geometry → Manifest → List ℕ → End → Type 0) (m : Manifest) (image : Option (List ℕ)) (g : Geometry) (status : Status) (text : List ℕ)
+    → FindsSuper image (Some g) → (HasPlaces g m → ⊥) → (status ≡ Image) × (text ≡ image_line 2 0 0) → ReadsImage E m image status text
+out_of_place E m None g status text found wrong told = inr (inl (told.0, told.1, tt))
+out_of_place E m (Some x) g status text found wrong told =
+    inr (inl (told.0, told.1, (found.0, subst (λ (h : Geometry). HasPlaces h m → ⊥) found.1 wrong)))
 
 -- what a command answers is answered to the words that ask for it
-pub answers_words : (words : List (List ℕ)) (command : Words) (image : Option (List ℕ)) (status : Status) (text : List ℕ)
-    → AsksFor words command → Reads (EndsWith command) image status text → Answers words image status text
-answers_words words (commands.List ino) image status text asks reads = inr (inl (ino, asks, reads))
-answers_words words (commands.Resolve path) image status text asks reads = inr (inr (inl (path, asks, reads)))
-answers_words words (commands.Parents ino) image status text asks reads = inr (inr (inr (ino, asks, reads)))
+pub answers_words : (words : List (List ℕ)) (command : Words) (manifest image : Option (List ℕ)) (status : Status) (text : List ℕ)
+    → AsksFor words command → Reads (EndsWith command) manifest image status text → Answers words manifest image status text
+answers_words words (commands.List ino) manifest image status text asks reads = inr (inl (ino, asks, reads))
+answers_words words (commands.Resolve path) manifest image status text asks reads = inr (inr (inl (path, asks, reads)))
+answers_words words (commands.Parents ino) manifest image status text asks reads = inr (inr (inr (ino, asks, reads)))
 
 -- ---- words are of one form
 
@@ -89,51 +99,93 @@ list_later extra first between now one few = omega (arith, one, few)
 walk_later : (extra first between now : ℕ) → between ≤ first + 1 → now ≤ between + extra → now ≤ first + 1 + extra
 walk_later extra first between now one few = omega (arith, one, few)
 
-later : (command : Words) (g : Geometry) (x : List ℕ) (first between now : ℕ) → between ≤ first + 1 → ReadsAtMost command g x between now → ReadsAtMost command g x (first + 1) now
-later (commands.List ino) g x first between now one few = (list_later (list_cost (inode_of g x ino)) first between now one few.0, λ other. let once = few.1 other in omega (arith, one, once))
-later (commands.Parents ino) g x first between now one few = walk_later (list_most (inode_of g x ino)) first between now one few
-later (commands.Resolve path) g x first between now one few = λ most bound. walk_later ((1 + most) * length (parts_of path)) first between now one (few most bound)
+later : (command : Words) (g : Geometry) (m : Manifest) (x : List ℕ) (first between now : ℕ) → between ≤ first + 1 → ReadsAtMost command g m x between now → ReadsAtMost command g m x (first + 1) now
+later (commands.List ino) g m x first between now one few = (list_later (list_cost (inode_of g x ino)) first between now one few.0, λ other. let once = few.1 other in omega (arith, one, once))
+later (commands.Parents ino) g m x first between now one few = walk_later (list_most (inode_of g x ino)) first between now one few
+later (commands.Resolve path) g m x first between now one few = λ most bound. walk_later ((1 + most) * length (parts_of path)) first between now one (few most bound)
 
 -- what a command reads over the image whose superblock was found
-pub reads_over_image : (command : Words) (image : Option (List ℕ)) (g : Geometry) (first between now : ℕ) → FindsSuper image (Some g) → between ≤ first + 1
-    → IfSome image (λ x. ReadsAtMost command g x between now) → IfSome image (λ x. ReadsAtMost command (geometry_in x) x (first + 1) now)
-reads_over_image command None g first between now found one few = tt
-reads_over_image command (Some x) g first between now found one few = later command (geometry_in x) x first between now one (subst (λ (h : Geometry). ReadsAtMost command h x between now) found.1 few)
+pub reads_over_image : (command : Words) (m : Manifest) (image : Option (List ℕ)) (g : Geometry) (first between now : ℕ) → FindsSuper image (Some g) → between ≤ first + 1
+    → IfSome image (λ x. ReadsAtMost command g m x between now) → IfSome image (λ x. ReadsAtMost command (geometry_in x) m x (first + 1) now)
+reads_over_image command m None g first between now found one few = tt
+reads_over_image command m (Some x) g first between now found one few = later command (geometry_in x) m x first between now one (subst (λ (h : Geometry). ReadsAtMost command h m x between now) found.1 few)
+
+-- the superblock alone, or nothing, is no more than any command reads
+fewer : (command : Words) (g : Geometry) (m : Manifest) (x : List ℕ) (before now : ℕ) → now ≤ before → ReadsAtMost command g m x before now
+fewer (commands.List ino) g m x before now few = (omega (arith, few), λ other. omega (arith, few))
+fewer (commands.Parents ino) g m x before now few = omega (arith, few)
+fewer (commands.Resolve path) g m x before now few = λ most bound. let extra : ℕ = (1 + most) * length (parts_of path) in let fine : now ≤ before + extra = omega (arith, few) in fine
+
+pub few_reads : (command : Words) (m : Manifest) (image : Option (List ℕ)) (before now : ℕ) → now ≤ before → IfSome image (λ x. ReadsAtMost command (geometry_in x) m x before now)
+few_reads command m None before now few = tt
+few_reads command m (Some x) before now few = fewer command (geometry_in x) m x before now few
 
 two_more : (extra before now : ℕ) → now ≤ before + 1 + 1 + extra → now ≤ before + 2 + extra
 two_more extra before now few = omega (arith, few)
 
--- a list, and one that is refused
-list_reads : (image : Option (List ℕ)) (ino before now : ℕ) → IfSome image (λ x. ReadsAtMost (commands.List ino) (geometry_in x) x (before + 1) now) → ListReads image ino before now
-list_reads None ino before now few = tt
-list_reads (Some x) ino before now few = two_more (list_cost (inode_of (geometry_in x) x ino)) before now few.0
+-- a list, and one that is refused, by the manifest that was read
+list_reads : (m : Manifest) (image : Option (List ℕ)) (ino before now : ℕ) → IfSome image (λ x. ReadsAtMost (commands.List ino) (geometry_in x) m x (before + 1) now) → ListReads image ino before now
+list_reads m None ino before now few = tt
+list_reads m (Some x) ino before now few = two_more (list_cost (inode_of (geometry_in x) x ino)) before now few.0
 
-refused_reads : (image : Option (List ℕ)) (ino before now : ℕ) → IfSome image (λ x. ReadsAtMost (commands.List ino) (geometry_in x) x (before + 1) now) → RefusedReads image ino before now
-refused_reads None ino before now few = tt
-refused_reads (Some x) ino before now few = λ other. let once = few.1 other in omega (arith, once)
+refused_reads : (m : Manifest) (manifest image : Option (List ℕ)) (ino before now : ℕ) → IfSome manifest (λ text. IsManifestIn text m)
+    → IfSome image (λ x. ReadsAtMost (commands.List ino) (geometry_in x) m x (before + 1) now) → RefusedReads manifest image ino before now
+refused_reads m None image ino before now is few = tt
+refused_reads m (Some text) None ino before now is few = tt
+refused_reads m (Some text) (Some x) ino before now is few = λ refused. let once = few.1 (refused m is) in omega (arith, once)
 
 -- what was asked of a list
-pub asked_list : (g : Geometry) (image : Option (List ℕ)) (ino before now : ℕ) → IfSome image (λ x. now ≤ before + 1 + list_cost (inode_of g x ino))
-    → IfSome image (λ x. (IsAttached g (inode_of g x ino) ino → ⊥) → now ≤ before + 1) → IfSome image (λ x. ReadsAtMost (commands.List ino) g x before now)
-asked_list g None ino before now few refused = tt
-asked_list g (Some x) ino before now few refused = (few, refused)
+pub asked_list : (g : Geometry) (m : Manifest) (image : Option (List ℕ)) (ino before now : ℕ) → IfSome image (λ x. now ≤ before + 1 + list_cost (inode_of g x ino))
+    → IfSome image (λ x. (IsAttached g m (inode_of g x ino) ino → ⊥) → now ≤ before + 1) → IfSome image (λ x. ReadsAtMost (commands.List ino) g m x before now)
+asked_list g m None ino before now few refused = tt
+asked_list g m (Some x) ino before now few refused = (few, refused)
+
+-- a walk, likewise
+resolve_reads : (m : Manifest) (manifest image : Option (List ℕ)) (path : List ℕ) (before now : ℕ) → IfSome manifest (λ text. IsManifestIn text m)
+    → IfSome image (λ x. ReadsAtMost (commands.Resolve path) (geometry_in x) m x (before + 1) now) → ResolveReads manifest image path before now
+resolve_reads m None image path before now is few = tt
+resolve_reads m (Some text) None path before now is few = tt
+resolve_reads m (Some text) (Some x) path before now is few = λ most costs. few most (costs m is)
+
+-- what the command reads by the manifest that was read
+pub command_reads : (command : Words) (m : Manifest) (manifest image : Option (List ℕ)) (before now : ℕ) → IfSome manifest (λ text. IsManifestIn text m)
+    → IfSome image (λ x. ReadsAtMost command (geometry_in x) m x (before + 1) now) → CommandReads command manifest image before now
+command_reads (commands.List ino) m manifest image before now is few = (list_reads m image ino before now few, refused_reads m manifest image ino before now is few)
+command_reads (commands.Resolve path) m manifest image before now is few = resolve_reads m manifest image path before now is few
+command_reads (commands.Parents ino) m manifest image before now is few = few
+
+-- where there is no manifest nothing is read
+none_at_all : (command : Words) (manifest : Option (List ℕ)) (x : List ℕ) (before now : ℕ) → now ≡ before → CommandReads command manifest (Some x) before now
+none_at_all (commands.List ino) None x before now same = (omega (arith, same), tt)
+none_at_all (commands.List ino) (Some text) x before now same = (omega (arith, same), λ refused. omega (arith, same))
+none_at_all (commands.Resolve path) None x before now same = tt
+none_at_all (commands.Resolve path) (Some text) x before now same = λ most bound. let extra : ℕ = (1 + most) * length (parts_of path) in let fine : now ≤ before + 1 + extra = omega (arith, same) in fine
+none_at_all (commands.Parents ino) manifest x before now same = omega (arith, same)
+
+pub no_reads : (command : Words) (manifest image : Option (List ℕ)) (before now : ℕ) → now ≡ before → CommandReads command manifest image before now
+no_reads command manifest (Some x) before now same = none_at_all command manifest x before now same
+no_reads (commands.List ino) None None before now same = (tt, tt)
+no_reads (commands.List ino) (Some text) None before now same = (tt, tt)
+no_reads (commands.Resolve path) None None before now same = tt
+no_reads (commands.Resolve path) (Some text) None before now same = tt
+no_reads (commands.Parents ino) manifest None before now same = tt
 
 -- what the command that was read reads at most is what the words allow
-pub reads_for : (words : List (List ℕ)) (command : Words) (image : Option (List ℕ)) (before now : ℕ)
-    → AsksFor words command → IfSome image (λ x. ReadsAtMost command (geometry_in x) x (before + 1) now) → ReadsFor words image before now
-reads_for words (commands.List ino) image before now asks few = record {
-  list = λ other also. subst (λ (n : ℕ). ListReads image n before now) (one_number (codes "list") words ino other asks also) (list_reads image ino before now few);
-  refused = λ other also. subst (λ (n : ℕ). RefusedReads image n before now) (one_number (codes "list") words ino other asks also) (refused_reads image ino before now few);
+pub reads_for : (words : List (List ℕ)) (command : Words) (manifest image : Option (List ℕ)) (before now : ℕ)
+    → AsksFor words command → CommandReads command manifest image before now → ReadsFor words manifest image before now
+reads_for words (commands.List ino) manifest image before now asks few = record {
+  list = λ other also. subst (λ (n : ℕ). ListReads image n before now) (one_number (codes "list") words ino other asks also) few.0;
+  refused = λ other also. subst (λ (n : ℕ). RefusedReads manifest image n before now) (one_number (codes "list") words ino other asks also) few.1;
   resolve = λ path also. absurd (not_both (codes "list") words ino path list_no_path asks also);
   parents = λ other also. absurd (not_list_and_parents words ino other asks also);
 }
-reads_for words (commands.Resolve path) image before now asks few = record {
+reads_for words (commands.Resolve path) manifest image before now asks few = record {
   list = λ ino also. absurd (not_both (codes "list") words ino path list_no_path also asks);
   refused = λ ino also. absurd (not_both (codes "list") words ino path list_no_path also asks);
-  resolve = λ other also. subst (λ (p : List ℕ). ResolveReads image p before now) (one_path words path other asks also) few;
+  resolve = λ other also. subst (λ (p : List ℕ). ResolveReads manifest image p before now) (one_path words path other asks also) few;
   parents = λ ino also. absurd (not_both (codes "parents") words ino path parents_no_path also asks);
 }
-reads_for words (commands.Parents ino) image before now asks few = record {
+reads_for words (commands.Parents ino) manifest image before now asks few = record {
   list = λ other also. absurd (not_list_and_parents words other ino also asks);
   refused = λ other also. absurd (not_list_and_parents words other ino also asks);
   resolve = λ path also. absurd (not_both (codes "parents") words ino path parents_no_path asks also);

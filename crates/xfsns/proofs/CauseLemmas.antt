@@ -4,7 +4,7 @@ use Rattle.std.proofs.Common.{◌≡◌, ℕ, ◌≤◌, List, Result, Err, inl,
 use Rattle.std.specs.Prelude.{IfErr}
 use Rattle.std.proofs.lemmas.Result.{IfErr-at_err}
 use Rattle.xn_bytes.specs.Causes.{Rose}
-use Rattle.xn_bytes.specs.Outcome.{AsksToRead}
+use Rattle.xn_meaning.specs.Outcome.{AsksToRead}
 use Rattle.xn_text.specs.declared.reply.Reply.{Reply}
 use Rattle.xn_text.specs.declared.words.Words.{Words}
 use Rattle.xn_text.specs.declared.words.Words.TheVariants as commands
@@ -13,7 +13,7 @@ use Rattle.xn_ns.specs.declared.fault.SeeFault.{SeeFault}
 use Rattle.xn_ns.specs.declared.fault.SeeFault.TheVariants as see
 use Rattle.xfsns.specs.declared.answer.Fault.{Fault}
 use Rattle.xfsns.specs.declared.answer.Fault.TheVariants as faults
-use Rattle.xfsns.specs.Answer.{HasReadCause}
+use Rattle.xfsns.specs.Answer.{HasReadCause, ReadRose}
 
 -- the cause of a command's fault is that of the answer's
 pub cause_of_answer : (before between now : ℕ) (ended : Result Reply SeeFault) → before ≤ between → IfErr ended (λ f. f ≡ see.Read → Rose between now) → ended ≡ Err see.Read → Rose before now
@@ -25,6 +25,7 @@ asks_to_read words (commands.Resolve path) asks = inr (inl (path, asks))
 asks_to_read words (commands.Parents ino) asks = inr (inr (ino, asks))
 
 -- the words ask to read, as the command does that was read from them
-pub cause_for_words : (words : List (List ℕ)) (command : Words) (before now : ℕ) (fault : Fault) → AsksFor words command → (fault ≡ faults.Read → Rose before now) → HasReadCause words before now fault
-cause_for_words words command before now faults.Read asks rose = (asks_to_read words command asks, rose refl)
-cause_for_words words command before now faults.Memory asks rose = tt
+pub cause_for_words : (words : List (List ℕ)) (command : Words) (before now source_before source_now : ℕ) (fault : Fault) → AsksFor words command
+    → (fault ≡ faults.Read → ReadRose before now source_before source_now) → HasReadCause words before now source_before source_now fault
+cause_for_words words command before now source_before source_now faults.Read asks rose = (asks_to_read words command asks, rose refl)
+cause_for_words words command before now source_before source_now faults.Memory asks rose = tt

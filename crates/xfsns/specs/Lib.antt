@@ -1,3 +1,4 @@
 pub mod Home
 pub mod Answer
 pub mod Top
+pub mod Manifest

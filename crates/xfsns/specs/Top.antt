@@ -1,7 +1,7 @@
 -- What telling an answer leaves.
 use Rattle.std.specs.Prelude.{◌≡◌, ◌⊎◌, ℕ, List, Option, option_map, ◌++◌}
-use Rattle.xn_bytes.specs.declared.status.Status.{Status}
-use Rattle.xn_bytes.specs.declared.status.Status.TheVariants.{SayFault}
+use Rattle.xn_meaning.specs.declared.status.Status.{Status}
+use Rattle.xn_meaning.specs.declared.status.Status.TheVariants.{SayFault}
 use Rattle.xn_bytes.specs.Causes.{Rose}
 use Rattle.xn_machine.specs.Device.{TellsFront}
 

@@ -2,7 +2,7 @@
 
 use std::fmt::Display;
 use std::io;
-use xn_bytes::Status;
+use xn_meaning::Status;
 use xn_text::FORMS;
 
 /// Says which forms there are where the words are none of them, and what failed where the status tells nothing of its own.
@@ -22,7 +22,8 @@ pub fn explain<R: Eprint>(
         }
         Status::SayFault => say_failure(rt, "write", "standard output", telling),
         Status::Memory => say(rt, "out of memory\n"),
-        Status::Done | Status::Image => {}
+        Status::Long => say(rt, "the manifest has more than 1048576 bytes\n"),
+        Status::Done | Status::Image | Status::Manifest => {}
     }
 }
 

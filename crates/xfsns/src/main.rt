@@ -7,6 +7,7 @@ mod answer;
 mod complaints;
 mod files;
 mod home;
+mod manifest;
 mod top;
 
 use complaints::{cannot_open, explain};
@@ -17,8 +18,8 @@ use std::io::ErrorKind;
 use std::process::ExitCode;
 use std::{env, io};
 use top::xfsns;
-use xn_bytes::Status;
 use xn_machine::MemSource;
+use xn_meaning::Status;
 use xn_text::{Words, WordsFault};
 
 /// The exit status where a file can't be opened.

@@ -5,6 +5,7 @@ mod directories;
 mod edge;
 mod forks;
 mod lists;
+mod manifests;
 mod outside;
 mod parents;
 mod paths;
@@ -74,7 +75,7 @@ fn answers(alloc: Global, asked: Asked, line: &str) -> Result<Option<(Answer, An
 fn run(alloc: Global, row: &Row<'_>) -> Result<Answer, Fail> {
     let image = row.image(alloc)?;
     let mut machine = MemMachine::new(alloc, image, row.fails(alloc)?, None, CALLS, ROOM)?;
-    let mut manifest = MemSource::new(Vec::new(alloc), Vec::new(alloc));
+    let mut manifest = MemSource::new(row.manifest(alloc)?, Vec::new(alloc));
     let mut script = MemSource::new(Vec::new(alloc), Vec::new(alloc));
     let words = row.words(alloc)?;
     let status = xfsns(alloc, &words, &mut machine, &mut manifest, &mut script);

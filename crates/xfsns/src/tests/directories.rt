@@ -15,6 +15,7 @@ use xn_dir::{Dir, Listed};
 use xn_inode::{Store, StoreFault, Super};
 use xn_machine::{Machine, MemMachine};
 use xn_make::ROOT;
+use xn_pool::Pool;
 use xn_replay::{Seen, View};
 use xn_rows::Row;
 
@@ -75,7 +76,8 @@ fn home_of<M: Machine>(alloc: Global, machine: &mut M) -> Result<View, Fail>
     let geometry = Super::read(&sector, sectors)
         .ok()
         .ok_or("the superblock is not accepted")?;
-    Ok(View::home(alloc, &geometry))
+    let pool = Pool::new(alloc, &geometry, &[]).ok().ok_or("no pool")?;
+    Ok(View::home(alloc, &geometry, pool))
 }
 
 /// Whether an inode is that of a directory, by its mode.

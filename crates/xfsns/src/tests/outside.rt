@@ -7,7 +7,7 @@ use std::alloc::Global;
 use std::fs;
 use std::fs::File;
 use std::test::Fail;
-use xn_bytes::Status;
+use xn_meaning::Status;
 
 const ROWS: &str = r"
 # the superblock is read, the inode, its mode and its block, and then the list is told
@@ -47,10 +47,11 @@ fn answers_over_a_file(rt: HostRuntime) -> Result<(), Fail> {
     let image = xn_rows::image(alloc, "short:0100_00000080_010060'a'01_00000083")?;
     fs::write(&rt, "one.img", &image)?;
     let mut machine = FileMachine::over(File::open(&rt, "one.img")?, Vec::new(alloc))?;
-    let mut manifest = FileSource::over(std::io::empty());
+    let text = xn_rows::manifest(alloc, "block")?;
     let mut script = FileSource::over(std::io::empty());
     for (command, what) in [("list", "128"), ("resolve", "/a")] {
         let words = words_of(alloc, command, what)?;
+        let mut manifest = FileSource::over(text.as_slice());
         let status = xfsns(alloc, &words, &mut machine, &mut manifest, &mut script);
         assert_eq!(rt; status, Status::Done);
     }

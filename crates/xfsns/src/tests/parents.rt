@@ -260,7 +260,7 @@ parents IMAGE MANIFEST 144 | block inode:144 4=02 | 2 image rule 10 inode 144 bl
 parents IMAGE MANIFEST 144 | block inode:144 159=91 | 2 image rule 10 inode 144 block 0
 parents IMAGE MANIFEST 144 | block inode:144 160=01 | 2 image rule 10 inode 144 block 0
 parents IMAGE MANIFEST 144 | block raw:73728 100=00000000 | 2 image rule 10 inode 144 block 0
-parents IMAGE MANIFEST 0 | block | 2 image rule 10 inode 0 block 0
+parents IMAGE MANIFEST 0 | block | 0 error 2 ENOENT
 # no inode has this number
 parents IMAGE MANIFEST 4608 | block | 0 error 2 ENOENT
 parents IMAGE MANIFEST 18446744073709551615 | block | 0 error 2 ENOENT
