@@ -34,6 +34,11 @@ mount_image() {
     mounted=$work/mount
 }
 
+# write_manifest: the manifest of the image, which isn't mounted, in $work/manifest.
+write_manifest() {
+    "$top/tools/manifest" "$image" >"$work/manifest"
+}
+
 unmount() {
     [ -z "$mounted" ] || umount "$mounted"
     mounted=

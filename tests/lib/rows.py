@@ -2,7 +2,7 @@
 
     rows.py PROGRAM MAKER FILE..
 
-runs each row's words where IMAGE and MANIFEST are files, IMAGE as MAKER makes it (`MAKER FILE WORDS`), and compares the exit
+runs each row's words where IMAGE and MANIFEST are files as MAKER makes them (`MAKER IMAGE WORDS MANIFEST`), and compares the exit
 status and standard output. It says how many rows are as wanted, or shows the first that isn't and ends with status 1.
 
 The form of a row is explained at the head of crates/xn_rows/src/lib.rt.
@@ -47,15 +47,13 @@ def run(program, words):
 
 def main(program, maker, paths):
     made, count = None, 0
-    with open("MANIFEST", "w", encoding="ascii") as manifest:
-        manifest.write("xfsns-manifest 1\nchunk 128 0000000000000000\n")
     for path in paths:
         for number, line in rows(path):
             words, image, answer = (field.strip() for field in line.split("|"))
             if "fails:" in image:
                 continue
             if image != made:
-                subprocess.run([maker, "IMAGE", image], check=True)
+                subprocess.run([maker, "IMAGE", image, "MANIFEST"], check=True)
                 made = image
             told = run(program, words.split())
             if told != wanted(answer):
