@@ -9,4 +9,5 @@ pub mod NameRules
 pub mod Sound
 pub mod NameSpace
 pub mod Reading
+pub mod Checking
 pub mod Outcome

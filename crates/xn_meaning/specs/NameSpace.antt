@@ -5,13 +5,14 @@ use Rattle.xn_bytes.specs.declared.kind.Kind.TheVariants.{Dir}
 use Rattle.xn_meaning.specs.declared.errno.Errno.{Errno}
 use Rattle.xn_meaning.specs.declared.errno.Errno.TheVariants.{ENOENT, ENOTDIR, EINVAL, ENAMETOOLONG}
 use Rattle.xn_bytes.specs.Names.{IsName}
-use Rattle.xn_meaning.specs.Replies.{Reply, EntryOf, ErrorOf}
+use Rattle.xn_meaning.specs.Replies.{Reply, EntryOf, ErrorOf, Summary}
 
--- ---- how a reading command ends
+-- ---- how a command that only reads ends
 
--- With a reply, or at an inode that breaks a rule, which is told with the inode and the block.
+-- With a reply; with a summary of what was checked; or at an inode that breaks a rule, which is told with the inode and the block.
 pub data End : Type 0 where
   Says : Reply → End
+  Sums : Summary → End
   Breaks : ℕ → ℕ → ℕ → End
 
 -- ---- the map

@@ -5,11 +5,12 @@ use Rattle.xn_meaning.specs.declared.status.Status.TheVariants.{Done, Usage, Ima
 use Rattle.xn_bytes.specs.Numbers.{sector_of}
 use Rattle.xn_bytes.specs.Causes.{Rose}
 use Rattle.xn_bytes.specs.Superblock.{Geometry, geometry_of, IsSuperblock}
-use Rattle.xn_meaning.specs.Words.{AsksList, AsksResolve, AsksParents, AsksNothing}
-use Rattle.xn_meaning.specs.Replies.{usage_line, image_line, manifest_line, reply_text}
-use Rattle.xn_meaning.specs.Manifests.{Manifest, HasPlaces, IsTextOf, IsFirstBadLine, most_bytes}
-use Rattle.xn_meaning.specs.NameSpace.{End, Says, Breaks}
+use Rattle.xn_meaning.specs.Words.{AsksList, AsksResolve, AsksParents, AsksCheck, AsksNothing}
+use Rattle.xn_meaning.specs.Replies.{usage_line, image_line, manifest_line, reply_text, summary_line}
+use Rattle.xn_meaning.specs.Manifests.{Manifest, HasPlaces, IsManifest, IsTextOf, IsFirstBadLine, most_bytes}
+use Rattle.xn_meaning.specs.NameSpace.{End, Says, Sums, Breaks}
 use Rattle.xn_meaning.specs.Reading.{ListEnds, ResolveEnds, ParentsEnd}
+use Rattle.xn_meaning.specs.Checking.{CheckEnds}
 
 -- ---- the image
 
@@ -26,11 +27,13 @@ HasSuperblock image = IsSuperblock (sector_of image 0) (length image / 512)
 -- the status with which the end of a command is told
 abbrev pub end_status : End → Status
 end_status (Says reply) = Done
+end_status (Sums summary) = Done
 end_status (Breaks inode rule block) = Image
 
 -- and the text
 abbrev pub end_text : End → List ℕ
 end_text (Says reply) = reply_text reply
+end_text (Sums summary) = summary_line summary
 end_text (Breaks inode rule block) = image_line rule inode block
 
 -- What a command that reads answers over the image, by the manifest: that the superblock is not accepted; or else that what the
@@ -51,7 +54,7 @@ pub record IsManifestIn (text : List ℕ) (m : Manifest) : Type 0 where
 abbrev pub RefusesManifest : Option (List ℕ) → Status → List ℕ → Type 0
 RefusesManifest manifest status told =
     ((status ≡ Long) × (told ≡ []) × IfSome manifest (λ text. most_bytes < length text))
-    ⊎ ((number : ℕ) × (status ≡ BadManifest) × (told ≡ manifest_line number)
+    ⊎ ((number : ℕ) × (0 < number) × (status ≡ BadManifest) × (told ≡ manifest_line number)
     × IfSome manifest (λ text. (length text ≤ most_bytes) × IsFirstBadLine text number))
 
 -- What a command that reads answers: of the manifest, or else of the image. Where both are told, each answer comes exactly where
@@ -59,7 +62,7 @@ RefusesManifest manifest status told =
 abbrev pub Reads : (Geometry → Manifest → List ℕ → End → Type 0) → Option (List ℕ) → Option (List ℕ) → Status → List ℕ → Type 0
 Reads EndsWith manifest image status told =
     RefusesManifest manifest status told
-    ⊎ ((m : Manifest) × IfSome manifest (λ text. IsManifestIn text m) × ReadsImage EndsWith m image status told)
+    ⊎ ((m : Manifest) × IsManifest m × IfSome manifest (λ text. IsManifestIn text m) × ReadsImage EndsWith m image status told)
 
 -- what is answered to words that are none of the forms
 pub record UsageAnswers (words : List (List ℕ)) (status : Status) (told : List ℕ) : Type 0 where
@@ -74,11 +77,12 @@ Answers words manifest image status told =
     ⊎ ((ino : ℕ) × AsksList words ino × Reads (λ g m. ListEnds g m ino) manifest image status told)
     ⊎ ((path : List ℕ) × AsksResolve words path × Reads (λ g m. ResolveEnds g m path) manifest image status told)
     ⊎ ((ino : ℕ) × AsksParents words ino × Reads (λ g m. ParentsEnd g m ino) manifest image status told)
+    ⊎ (AsksCheck words × Reads CheckEnds manifest image status told)
 
 -- the words ask for something that is read from the image
 abbrev pub AsksToRead : List (List ℕ) → Type 0
 AsksToRead words =
-    ((ino : ℕ) × AsksList words ino) ⊎ ((path : List ℕ) × AsksResolve words path) ⊎ ((ino : ℕ) × AsksParents words ino)
+    ((ino : ℕ) × AsksList words ino) ⊎ ((path : List ℕ) × AsksResolve words path) ⊎ ((ino : ℕ) × AsksParents words ino) ⊎ AsksCheck words
 
 -- ---- the outcome of a call
 
@@ -115,17 +119,22 @@ TellsAnswer words before now status = (text : List ℕ) × Answers words before.
 abbrev pub TellsOfWhole : List (List ℕ) → Outside → Outside → Status → Type 0
 TellsOfWhole words before now status = TellsAnswer words before now status × IfSome now.manifest (λ left. left ≡ [])
 
--- Reading failed: the words ask to read, and nothing was told.
+-- a text is that of a manifest, where one is told
+abbrev pub HasManifest : Option (List ℕ) → Type 0
+HasManifest manifest = IfSome manifest (λ text. (m : Manifest) × IsManifestIn text m)
+
+-- Reading failed: the words ask to read, and nothing was told. The image is read only where the manifest is one.
 pub record FailsToRead (words : List (List ℕ)) (before now : Outside) : Type 0 where
   pub asks : AsksToRead words
-  pub rose : Rose before.read_faults now.read_faults ⊎ Rose before.manifest_faults now.manifest_faults
+  pub rose : (Rose before.read_faults now.read_faults × HasManifest before.manifest) ⊎ Rose before.manifest_faults now.manifest_faults
   pub silent : Tells before now []
 
--- Telling that failed: a front of an answer was told.
+-- Telling that failed, where there was something to tell: a front of an answer was told.
 pub record FailsToSay (words : List (List ℕ)) (before now : Outside) : Type 0 where
   pub rose : Rose before.say_faults now.say_faults
   pub status : Status
   pub text : List ℕ
+  pub some : 0 < length text
   pub answer : Answers words before.manifest before.image status text
   pub count : ℕ
   pub front : Tells before now (take count text)

@@ -31,6 +31,20 @@ image_line rule inode block =
 abbrev pub manifest_line : ℕ → List ℕ
 manifest_line number = codes "manifest line " ++ decimal number ++ newline ∷ []
 
+-- what is told of an image that the checker accepts: how many inodes are live, and how many of them are directories; how many
+-- entries there are; how many changes of parent records are pending; how many blocks of the pool are free
+pub record Summary : Type 0 where
+  pub inodes : ℕ
+  pub directories : ℕ
+  pub entries : ℕ
+  pub pending : ℕ
+  pub free : ℕ
+
+abbrev pub summary_line : Summary → List ℕ
+summary_line summary =
+    codes "ok inodes " ++ decimal summary.inodes ++ codes " directories " ++ decimal summary.directories ++ codes " entries " ++ decimal summary.entries
+    ++ codes " pending " ++ decimal summary.pending ++ codes " free " ++ decimal summary.free ++ newline ∷ []
+
 -- ---- replies
 
 -- of a list: a name, and the inode that it names with its kind

@@ -2,7 +2,7 @@
 --
 -- Cut as long as no log is read: rules 3, 4, 6, 7 and 8 speak of the log, and are not looked at. The image is taken as it stands
 -- in its home sectors, with nothing pending.
-use Rattle.std.specs.Prelude.{◌≡◌, ◌⊎◌, ℕ, ◌+◌, ◌<◌, ◌≤◌, List, [], ◌∷◌, ◌++◌, length, AllPairs}
+use Rattle.std.specs.Prelude.{◌≡◌, ◌⊎◌, ℕ, ◌+◌, ◌/◌, ◌<◌, ◌≤◌, List, [], ◌∷◌, ◌++◌, length, All, AllPairs, Contains, IsPermutation}
 use Rattle.xn_bytes.specs.Superblock.{Geometry}
 use Rattle.xn_bytes.specs.Inode.{inode_of}
 use Rattle.xn_bytes.specs.Extents.{Run}
@@ -45,17 +45,27 @@ AreRunsIn g image (ino ∷ inodes) runs =
 abbrev pub AreApart : Run → Run → Type 0
 AreApart a b = (a.block + a.count ≤ b.block) ⊎ (b.block + b.count ≤ a.block)
 
--- no block is mapped twice
-abbrev pub MapOnce : List Run → Type 0
-MapOnce runs = AllPairs AreApart runs
+-- a block is one of a run's
+pub record Maps (block : ℕ) (run : Run) : Type 0 where
+  pub from : run.block ≤ block
+  pub below : block < run.block + run.count
+
+-- no block is mapped twice, and none is mapped in which a live inode stands
+pub record MapOnce (live : List ℕ) (runs : List Run) : Type 0 where
+  pub once : AllPairs AreApart runs
+  pub clear : (ino : ℕ) → Contains live ino → All (λ run. ¬ Maps (ino / 8) run) runs
 
 -- ---- the image
 
--- what the rules between inodes are about: the live inodes, their entries, and the runs that they map
+-- what the rules between inodes are about: the live inodes, and in any order their entries and the runs that they map
 pub record Contents (g : Geometry) (m : Manifest) (image : List ℕ) (live : List ℕ) (namings : List Naming) (runs : List Run) : Type 0 where
   pub are_live : AreLive g m live
-  pub are_namings : AreNamingsIn g m image live namings
-  pub are_runs : AreRunsIn g image live runs
+  pub namings_in_turn : List Naming
+  pub are_namings : AreNamingsIn g m image live namings_in_turn
+  pub same_namings : IsPermutation namings_in_turn namings
+  pub runs_in_turn : List Run
+  pub are_runs : AreRunsIn g image live runs_in_turn
+  pub same_runs : IsPermutation runs_in_turn runs
 
 -- The least inode that breaks a rule, and the least rule that it breaks, with the block.
 pub record IsFirstInode (g : Geometry) (m : Manifest) (image : List ℕ) (namings : List Naming) (rule ino block : ℕ) : Type 0 where
@@ -74,10 +84,10 @@ FirstBroken g m image rule inode block =
     (live : List ℕ) × (namings : List Naming) × (runs : List Run) × Contents g m image live namings runs
     × (((rule ≡ 5) × (inode ≡ 0) × (block ≡ 0) × ¬ HasRightRoot g m image namings)
     ⊎ (HasRightRoot g m image namings
-    × (((rule ≡ 9) × (inode ≡ 0) × (block ≡ 0) × ¬ MapOnce runs)
-    ⊎ (MapOnce runs × IsFirstInode g m image namings rule inode block))))
+    × (((rule ≡ 9) × (inode ≡ 0) × (block ≡ 0) × ¬ MapOnce live runs)
+    ⊎ (MapOnce live runs × IsFirstInode g m image namings rule inode block))))
 
 -- Rules 5 and 9 and those of inodes hold of an image: the checker accepts it, where rules 1 and 2 hold too.
 abbrev pub Sound : Geometry → Manifest → List ℕ → List ℕ → List Naming → List Run → Type 0
 Sound g m image live namings runs =
-    Contents g m image live namings runs × HasRightRoot g m image namings × MapOnce runs × BreaksNothing g m image namings
+    Contents g m image live namings runs × HasRightRoot g m image namings × MapOnce live runs × BreaksNothing g m image namings

@@ -34,8 +34,17 @@ pub record AsksResolve (words : List (List ℕ)) (path : List ℕ) : Type 0 wher
   pub path_word : IsWord (escaped path)
   pub bytes : All (λ byte. byte < 256) path
 
+-- `check IMAGE MANIFEST`
+pub record AsksCheck (words : List (List ℕ)) : Type 0 where
+  pub image : List ℕ
+  pub manifest : List ℕ
+  pub form : words ≡ codes "check" ∷ image ∷ manifest ∷ []
+  pub image_word : IsWord image
+  pub manifest_word : IsWord manifest
+
 -- the words are none of the forms
 pub record AsksNothing (words : List (List ℕ)) : Type 0 where
   pub no_list : (ino : ℕ) → ¬ AsksList words ino
   pub no_resolve : (path : List ℕ) → ¬ AsksResolve words path
   pub no_parents : (ino : ℕ) → ¬ AsksParents words ino
+  pub no_check : ¬ AsksCheck words

@@ -6,7 +6,7 @@ use Rattle.xn_bytes.specs.Superblock.{Geometry}
 use Rattle.xn_meaning.specs.Manifests.{Manifest, IsLive}
 use Rattle.xn_bytes.specs.Inode.{inode_of}
 use Rattle.xn_meaning.specs.Replies.{Reply}
-use Rattle.xn_meaning.specs.NameSpace.{Says, Breaks, Place, NameMap, Step, Ends, Goes, Walks, TakesInMap, step_to}
+use Rattle.xn_meaning.specs.NameSpace.{Says, Sums, Breaks, Place, NameMap, Step, Ends, Goes, Walks, TakesInMap, step_to}
 use Rattle.xn_meaning.specs.Paths.{parts_of}
 use Rattle.xn_meaning.specs.Reading.{HasMap, TakesInImage, ResolveEnds, IsNoDirectory, IsDirectoryIn, root_place}
 use Rattle.xn_ns.proofs.NamesOfMap.{as_the_map_says}
@@ -14,6 +14,7 @@ use Rattle.xn_ns.proofs.NamesOfMap.{as_the_map_says}
 -- a step that tells no fault of the image
 abbrev IsAnswer : Step → Type 0
 IsAnswer (Ends (Says reply)) = Unit {0}
+IsAnswer (Ends (Sums summary)) = Unit {0}
 IsAnswer (Ends (Breaks inode rule block)) = ⊥
 IsAnswer (Goes place) = Unit {0}
 

@@ -10,7 +10,7 @@ use xn_text::{
     image_line, manifest_line, usage_line,
 };
 
-/// Words, in which `{}` is nothing and `{_}` a space, and what they are read as: `usage`, the number of a list or of parents, or a path's
+/// Words, in which `{}` is nothing and `{_}` a space, and what they are read as: `usage`, `check`, the number of a list or of parents, or a path's
 /// bytes.
 const WORDS: &str = r"
 | usage
@@ -31,6 +31,12 @@ list IMAGE MANIFEST 0128 | usage
 list IMAGE MANIFEST +128 | usage
 list IMAGE MANIFEST 18446744073709551616 | usage
 resolve IMAGE MANIFEST | usage
+check IMAGE MANIFEST | check
+check IMAGE | usage
+check IMAGE MANIFEST 128 | usage
+check IMAGE {} | usage
+check -IMAGE MANIFEST | usage
+checks IMAGE MANIFEST | usage
 resolve IMAGE MANIFEST / / | usage
 resolve IMAGE MANIFEST -x | usage
 resolve IMAGE MANIFEST {} | usage
@@ -248,6 +254,7 @@ fn told(alloc: Global, line: &str) -> Result<(String, &str), Fail> {
         Ok(Words::List { ino }) => format!(in alloc; "list {ino}")?,
         Ok(Words::Parents { ino }) => format!(in alloc; "parents {ino}")?,
         Ok(Words::Resolve { path }) => format!(in alloc; "{:?}", path.as_slice())?,
+        Ok(Words::Check) => String::from_str(alloc, "check")?,
         Err(WordsFault::Usage) => String::from_str(alloc, "usage")?,
         Err(WordsFault::Memory) => return Err(Fail::from("there is memory")),
     };

@@ -1,12 +1,13 @@
 -- The words of the command line by their places.
-use Rattle.std.proofs.Common.{◌≡◌, ◌≢◌, ◌∙◌, ℕ, zero, suc, subst, ◌<◌, ◌≤◌, ◌^◌, true, List, [], ◌∷◌, length, get_or, map, refl, sym, ap, ap₂, arith, Option, Some}
+use Rattle.std.proofs.Common.{◌≡◌, ◌≢◌, ◌∙◌, ◌+◌, ℕ, zero, suc, subst, ◌<◌, ◌≤◌, ◌^◌, true, List, [], ◌∷◌, length, get_or, map, refl, sym, ap, ap₂, arith, Option, Some}
 use Rattle.std.specs.Prelude.{All, codes, decimal, option_map, unwrap_or}
+use Rattle.std.proofs.lemmas.List.{length-map}
 use Rattle.std.proofs.lemmas.List.Elements.{All-tail}
 use Rattle.clap.specs.Words.{found_of, matched_of, raw_values}
 use Rattle.clap.specs.declared.parser.matches.ArgMatches.{ArgMatches}
 use Rattle.xn_text.specs.Arguments.{IsSplit}
 use Rattle.xn_bytes.specs.Escapes.{escaped}
-use Rattle.xn_meaning.specs.Words.{IsWord, AsksOf, AsksList, AsksParents, AsksResolve, AsksNothing}
+use Rattle.xn_meaning.specs.Words.{IsWord, AsksOf, AsksList, AsksParents, AsksResolve, AsksCheck, AsksNothing}
 use Rattle.xn_text.proofs.NumberLemmas.{decimal_word}
 use Rattle.std.specs.Borrow.{Bor}
 use Rattle.std.specs.Str.{bytes_eq}
@@ -20,6 +21,13 @@ of_three (a ∷ []) d h k = absurd (omega arith)
 of_three (a ∷ b ∷ []) d h k = absurd (omega arith)
 of_three (a ∷ b ∷ c ∷ []) d h k = refl
 of_three (a ∷ b ∷ c ∷ e ∷ words) d h k = absurd (omega arith)
+
+-- and of two
+pub of_two : (words : List (Bor (List ℕ))) (d : Bor (List ℕ)) → length words ≡ 2 → map (λ word. word.now) words ≡ (get_or words 0 d).now ∷ (get_or words 1 d).now ∷ []
+of_two [] d two = absurd (omega arith)
+of_two (a ∷ []) d two = absurd (omega arith)
+of_two (a ∷ b ∷ []) d two = refl
+of_two (a ∷ b ∷ c ∷ words) d two = absurd (omega arith)
 
 -- texts that a test found the same
 pub same_text : (xs ys : List ℕ) → true ≡ bytes_eq xs ys → xs ≡ ys
@@ -40,6 +48,42 @@ asks_of command first rest ino same least most are last small = record {
   image_word = are 0 none (omega arith);
   manifest_word = are 1 none (omega arith);
   small = small;
+}
+
+-- the words of the form that ends with the manifest
+pub asks_check : (first : List ℕ) (rest : List (Bor (List ℕ))) → true ≡ bytes_eq first (codes "check") → length rest ≡ 2
+    → All (λ word. IsWord word.now) rest → AsksCheck (first ∷ map (λ word. word.now) rest)
+asks_check first rest same two are = record {
+  image = (get_or rest 0 none).now;
+  manifest = (get_or rest 1 none).now;
+  form = ap₂ (λ (word : List ℕ) (words : List (List ℕ)). word ∷ words) (same_text first (codes "check") same) (of_two rest none two);
+  image_word = are 0 none (omega arith);
+  manifest_word = are 1 none (omega arith);
+}
+
+-- how many words there are of a form
+words_of : (command one : List ℕ) (rest : List (Bor (List ℕ))) (others : List (List ℕ)) → command ∷ map (λ word. word.now) rest ≡ one ∷ others → length rest ≡ length others
+words_of command one rest others form =
+    let mapped : length (map (λ (word : Bor (List ℕ)). word.now) rest) ≡ length rest = length-map rest (λ (word : Bor (List ℕ)). word.now) in
+    let both : suc (length (map (λ (word : Bor (List ℕ)). word.now) rest)) ≡ suc (length others) = ap (λ (words : List (List ℕ)). length words) form in
+    omega (arith, mapped, both)
+
+-- words that are neither two nor three behind the command
+pub other_count : (command : List ℕ) (rest : List (Bor (List ℕ))) → length rest ≢ 2 → length rest ≢ 3 → AsksNothing (command ∷ map (λ word. word.now) rest)
+other_count command rest not_two not_three = record {
+  no_list = λ ino asks. not_three (words_of _ _ rest _ asks.form);
+  no_resolve = λ path asks. not_three (words_of _ _ rest _ asks.form);
+  no_parents = λ ino asks. not_three (words_of _ _ rest _ asks.form);
+  no_check = λ asks. not_two (words_of _ _ rest _ asks.form);
+}
+
+-- two words behind another command than that of the form
+pub check_refused : (command : List ℕ) (rest : List (Bor (List ℕ))) → length rest ≡ 2 → (true ≡ bytes_eq command (codes "check") → ⊥) → AsksNothing (command ∷ map (λ word. word.now) rest)
+check_refused command rest two other = record {
+  no_list = λ ino asks. let three = words_of _ _ rest _ asks.form in omega (arith, two, three);
+  no_resolve = λ path asks. let three = words_of _ _ rest _ asks.form in omega (arith, two, three);
+  no_parents = λ ino asks. let three = words_of _ _ rest _ asks.form in omega (arith, two, three);
+  no_check = λ asks. let is : command ≡ codes "check" = (let form = asks.form in cc) in other (sym ((bytes_eq-Decides command (codes "check")).1 is));
 }
 
 -- ---- words of which the last is none of its form
@@ -66,6 +110,7 @@ module _ (command : List ℕ) (rest : List (Bor (List ℕ))) (least : 3 ≤ leng
     no_list = λ ino asks. let are = parts _ _ _ _ asks.form in lists are.0 ino asks.small are.1;
     no_resolve = λ path asks. let are = parts _ _ _ _ asks.form in resolves are.0 path asks.bytes are.1;
     no_parents = λ ino asks. let are = parts _ _ _ _ asks.form in parents are.0 ino asks.small are.1;
+    no_check = λ asks. let two = words_of _ _ rest _ asks.form in omega (arith, two, least);
   }
 
   pub list_refused : true ≡ bytes_eq command (codes "list") → IsNoInode → AsksNothing (command ∷ map (λ word. word.now) rest)
@@ -94,6 +139,12 @@ four P a b c d pa pb pc pd (suc (suc zero)) e lt = pc
 four P a b c d pa pb pc pd (suc (suc (suc zero))) e lt = pd
 four P a b c d pa pb pc pd (suc (suc (suc (suc k)))) e lt = absurd (omega arith)
 
+three : {X : Type 0} (P : X → Type 0) (a b c : X) → P a → P b → P c → All P (a ∷ b ∷ c ∷ [])
+three P a b c pa pb pc zero e lt = pa
+three P a b c pa pb pc (suc zero) e lt = pb
+three P a b c pa pb pc (suc (suc zero)) e lt = pc
+three P a b c pa pb pc (suc (suc (suc k))) e lt = absurd (omega arith)
+
 inode_words : (command : List ℕ) (words : List (List ℕ)) (ino : ℕ) → IsWord command → AsksOf command words ino → All IsWord words
 inode_words command words ino is asks = subst (All IsWord) (sym asks.form) (four IsWord _ _ _ _ is asks.image_word asks.manifest_word (decimal_word ino asks.small))
 
@@ -102,6 +153,11 @@ list_words words ino asks = inode_words (codes "list") words ino (record { some 
 
 parents_words : (words : List (List ℕ)) (ino : ℕ) → AsksParents words ino → All IsWord words
 parents_words words ino asks = inode_words (codes "parents") words ino (record { some = omega arith; no_dash = λ e. omega (arith, e) }) asks
+
+check_words : (words : List (List ℕ)) → AsksCheck words → All IsWord words
+check_words words asks =
+    let check : IsWord (codes "check") = record { some = omega arith; no_dash = λ e. omega (arith, e) } in
+    subst (All IsWord) (sym asks.form) (three IsWord _ _ _ check asks.image_word asks.manifest_word)
 
 resolve_words : (words : List (List ℕ)) (path : List ℕ) → AsksResolve words path → All IsWord words
 resolve_words words path asks =
@@ -114,6 +170,7 @@ asks_nothing words none = record {
   no_list = λ ino asks. none (list_words words ino asks);
   no_resolve = λ path asks. none (resolve_words words path asks);
   no_parents = λ ino asks. none (parents_words words ino asks);
+  no_check = λ asks. none (check_words words asks);
 }
 
 pub all_unmapped : {X Y : Type 0} (P : Y → Type 0) (f : X → Y) (xs : List X) → All P (map f xs) → All (λ x. P (f x)) xs

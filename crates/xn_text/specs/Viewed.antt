@@ -1,10 +1,11 @@
 -- Replies, the lines of a list and those of parents, as what they say.
 use Rattle.std.specs.Prelude.{ℕ, List, [], ◌∷◌, ◌++◌, length, map, codes, decimal, flat_map}
 use Rattle.xn_bytes.specs.Parents.{ParentRecord}
-use Rattle.xn_meaning.specs.Replies.{Line, Reply as Said, Plain, EntryOf, ListOf, ParentsOf, ErrorOf, newline}
+use Rattle.xn_meaning.specs.Replies.{Line, Summary as Sums, Reply as Said, Plain, EntryOf, ListOf, ParentsOf, ErrorOf, newline}
 use Rattle.xn_text.specs.declared.line.ListLine.{ListLine}
 use Rattle.xn_text.specs.declared.line.ParentLine.{ParentLine}
 use Rattle.xn_text.specs.declared.reply.Reply.{Reply}
+use Rattle.xn_text.specs.declared.told.Summary.{Summary}
 use Rattle.xn_text.specs.declared.reply.Reply.TheVariants as replies
 
 abbrev pub line_of : ListLine → Line
@@ -29,3 +30,12 @@ reply_of (replies.Error error) = ErrorOf error
 -- `ok COUNT` and the text of each row
 abbrev pub rows_text : {Row : Type 0} → (Row → List ℕ) → List Row → List ℕ
 rows_text text rows = codes "ok " ++ decimal (length rows) ++ newline ∷ [] ++ flat_map text rows
+
+abbrev pub summary_of : Summary → Sums
+summary_of summary = record {
+  inodes = summary.inodes;
+  directories = summary.directories;
+  entries = summary.entries;
+  pending = summary.pending;
+  free = summary.free;
+}

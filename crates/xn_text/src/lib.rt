@@ -18,5 +18,5 @@ pub use line::{Lines, ListLine, ParentLine, ParentLines};
 pub use manifest::Manifest;
 pub use reader::{ManifestFault, one_reading};
 pub use reply::Reply;
-pub use told::{image_line, manifest_line, usage_line};
+pub use told::{Summary, image_line, manifest_line, summary_line, usage_line};
 pub use words::{FORMS, Words, WordsFault};

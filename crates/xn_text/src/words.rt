@@ -1,4 +1,4 @@
-ghost use Rattle.std.specs.Prelude.{◌≡◌, ◌≢◌, ◌<◌, ◌^◌, ◌∷◌, ◌↔◌, ℕ, IsTrue, All, IfOk, IfErr, List, decimal, map, string_bytes};
+ghost use Rattle.std.specs.Prelude.{◌≡◌, ◌≢◌, ◌<◌, ◌^◌, ◌∷◌, ◌↔◌, ℕ, IsTrue, All, IfOk, IfErr, List, decimal, length, map, string_bytes};
 ghost use Rattle.xn_bytes.specs.Escapes.{escaped};
 ghost use Rattle.xn_meaning.specs.Words.{IsWord, AsksNothing};
 ghost use Rattle.xn_text.specs.Asked.{AsksFor, IsRefusal};
@@ -14,6 +14,7 @@ pub const FORMS: &str = "\
 xfsns list IMAGE MANIFEST INO: a directory's entries
 xfsns resolve IMAGE MANIFEST PATH: the inode that a path leads to
 xfsns parents IMAGE MANIFEST INO: the entries that name an inode
+xfsns check IMAGE MANIFEST: whether all rules hold, or which is broken first
 ";
 
 /// What the words ask for.
@@ -25,6 +26,8 @@ pub enum Words {
     Resolve { path: Bytes },
     /// `parents IMAGE MANIFEST INO`
     Parents { ino: u64 },
+    /// `check IMAGE MANIFEST`
+    Check,
 }
 
 /// Why words were not read.
@@ -111,6 +114,9 @@ fn read_arguments(alloc: Global, command: &str, rest: &[&str]) -> Result<Words, 
     ensures ok { IfOk result (AsksFor (command.now ∷ map (λ word. word.now) rest.now)) }
     ensures err { IfErr result (λ fault. fault ≡ Usage → AsksNothing (command.now ∷ map (λ word. word.now) rest.now)) }
 {
+    if rest.len() == 2 {
+        return read_check(command, rest);
+    }
     let [_, _, last] = rest else {
         return Err(WordsFault::Usage);
     };
@@ -127,4 +133,18 @@ fn read_arguments(alloc: Global, command: &str, rest: &[&str]) -> Result<Words, 
         return Ok(Words::Resolve { path });
     }
     Err(WordsFault::Usage)
+}
+
+/// Compares a command that has no word behind image and manifest with the one form that is so.
+fn read_check(command: &str, rest: &[&str]) -> Result<Words, WordsFault>
+    requires words { All (λ word. IsWord word.now) rest.now }
+    requires two { length rest.now ≡ 2 }
+    ensures ok { IfOk result (AsksFor (command.now ∷ map (λ word. word.now) rest.now)) }
+    ensures err { IfErr result (λ fault. fault ≡ Usage → AsksNothing (command.now ∷ map (λ word. word.now) rest.now)) }
+{
+    if command == "check" {
+        Ok(Words::Check)
+    } else {
+        Err(WordsFault::Usage)
+    }
 }
