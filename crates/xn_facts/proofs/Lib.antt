@@ -1,0 +1,7 @@
+pub mod FirstOfTwo
+pub mod Owning
+pub mod Seeing
+pub mod Forks
+pub mod RunLists
+pub mod ContentsOver
+pub mod Together

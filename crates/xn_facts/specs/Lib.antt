@@ -1,0 +1,4 @@
+pub mod Verdicts
+pub mod Facts
+pub mod Owned
+pub mod Seen

@@ -1,0 +1,138 @@
+//! The facts of an inode of a store.
+
+ghost use Rattle.std.specs.Prelude.{◌≡◌, ◌↔◌, List, IsTrue, IfErr, IfOk, IfSome, MatchOption, MatchResult, map};
+ghost use Rattle.std.specs.Result.{result_ok, result_err};
+ghost use Rattle.xn_bytes.specs.Causes.{Rose};
+ghost use Rattle.xn_bytes.specs.Inode.{inode_of};
+ghost use Rattle.xn_bytes.specs.Parents.{ParentRecord};
+ghost use Rattle.xn_bytes.specs.AttributeForks.{HasOwnInode};
+ghost use Rattle.xn_bytes.specs.ParentRecords.{IsParentsOf, ListsParents, ParentsBreak};
+ghost use Rattle.xn_bytes.specs.Superblock.{IsInode};
+ghost use Rattle.xn_inode.specs.Frames.{StoreStays};
+ghost use Rattle.xn_inode.specs.declared.store.StoreFault.TheVariants.{Read};
+ghost use Rattle.xn_items.specs.Viewed.{record_of};
+ghost use Rattle.xn_meaning.specs.InodeRules.{IsOfDirectory};
+ghost use Rattle.xn_facts.specs.Facts.{FactsHold, IsFirstOf};
+ghost use Rattle.xn_facts.specs.Seen.{IsSeenDirectory};
+
+use crate::contents::contents_of;
+use crate::facts::{Broken, Contents, Facts, Node, lesser};
+use crate::own::own_of;
+use std::alloc::Global;
+use xn_bytes::{Kind, u16_at};
+use xn_inode::{Store, StoreFault};
+use xn_items::ParentRec;
+use xn_parent::parents;
+
+const INODE_BYTES: usize = 512;
+
+/// What the rules on one inode and its blocks say of this inode. It reads the inode twice, of a directory four times, and each
+/// block of its forks once, of a directory the first one three times.
+pub fn facts_of<S: Store>(alloc: Global, store: &mut S, ino: u64) -> Result<Facts, StoreFault>
+    requires whole { S.IsWhole store.old }
+    requires place { IsInode (S.shape store.old) ino }
+    ensures number { IfOk result (λ facts. facts.node.ino ≡ ino) }
+    ensures facts { IfOk result (λ facts. IfSome (S.image store.old) (λ x. FactsHold (S.shape store.old) x facts)) }
+    ensures cause { IfErr result (λ fault. fault ≡ Read → Rose (S.faults store.old) (S.faults store.new)) }
+    ensures stays { StoreStays S.Store store.old store.new }
+{
+    let mut inode = [0; INODE_BYTES];
+    store.inode(ino, &mut inode)?;
+    let is_directory = is_directory(&inode);
+    let own = own_of(alloc, store.geometry(), ino, &inode)?;
+    let (contents, of_directory) = directory_of(alloc, store, ino, &inode)?;
+    let (parents, of_parents) = records_of(alloc, store, ino)?;
+    let broken = lesser(of_directory, lesser(own.broken, of_parents));
+    let node = Node {
+        ino,
+        is_directory,
+        known: own.known,
+        parents,
+        broken,
+    };
+    Ok(Facts {
+        node,
+        contents,
+        runs: own.runs,
+    })
+}
+
+/// What an inode, whose bytes are at hand, holds as a directory, or the first of the rules on directories that it breaks; neither
+/// where it is none.
+fn directory_of<S: Store>(
+    alloc: Global,
+    store: &mut S,
+    ino: u64,
+    inode: &[u8; INODE_BYTES],
+) -> Result<(Option<Contents>, Option<Broken>), StoreFault>
+    requires whole { S.IsWhole store.old }
+    requires place { IsInode (S.shape store.old) ino }
+    requires bytes { IfSome (S.image store.old) (λ x. inode.now ≡ inode_of (S.shape store.old) x ino) }
+    ensures found { IfOk result (λ found. IfSome (S.image store.old) (λ x. IsSeenDirectory (S.shape store.old) x ino found.0 found.1)) }
+    ensures cause { IfErr result (λ fault. fault ≡ Read → Rose (S.faults store.old) (S.faults store.new)) }
+    ensures stays { StoreStays S.Store store.old store.new }
+{
+    if is_directory(inode) {
+        let verdict = contents_of(alloc, store, ino, inode)?;
+        Ok(both(verdict))
+    } else {
+        Ok((None, None))
+    }
+}
+
+/// The parent records of an inode, or the first of the rules on them that it breaks.
+fn records_of<S: Store>(
+    alloc: Global,
+    store: &mut S,
+    ino: u64,
+) -> Result<(Option<Vec<ParentRec>>, Option<Broken>), StoreFault>
+    requires whole { S.IsWhole store.old }
+    requires place { IsInode (S.shape store.old) ino }
+    ensures parents { IfOk result (λ found. IfSome (S.image store.old) (λ x. MatchOption found.0
+        ((records : List ParentRecord) → HasOwnInode (S.shape store.old) (inode_of (S.shape store.old) x ino) ino → ¬ IsParentsOf (S.shape store.old) x ino records)
+        (λ parents. ListsParents (S.shape store.old) x ino (map record_of parents.items)))) }
+    ensures broken { IfOk result (λ found. IfSome (S.image store.old) (λ x. IsFirstOf (ParentsBreak (S.shape store.old) x ino) found.1)) }
+    ensures cause { IfErr result (λ fault. fault ≡ Read → Rose (S.faults store.old) (S.faults store.new)) }
+    ensures stays { StoreStays S.Store store.old store.new }
+{
+    let verdict = parents_of(alloc, store, ino)?;
+    Ok(both(verdict))
+}
+
+/// A verdict as what is there of the two.
+fn both<T>(verdict: Result<T, Broken>) -> (Option<T>, Option<Broken>)
+    ensures value { result.0 ≡ result_ok verdict }
+    ensures broken { result.1 ≡ result_err verdict }
+{
+    match verdict {
+        Ok(value) => (Some(value), None),
+        Err(broken) => (None, Some(broken)),
+    }
+}
+
+/// The parent records of an inode, or the rule that it breaks.
+fn parents_of<S: Store>(
+    alloc: Global,
+    store: &mut S,
+    ino: u64,
+) -> Result<Result<Vec<ParentRec>, Broken>, StoreFault>
+    requires whole { S.IsWhole store.old }
+    requires place { IsInode (S.shape store.old) ino }
+    ensures verdict { IfOk result (λ verdict. IfSome (S.image store.old) (λ x. MatchResult verdict
+        (λ parents. ListsParents (S.shape store.old) x ino (map record_of parents.items))
+        (λ broken. ParentsBreak (S.shape store.old) x ino broken.rule broken.block))) }
+    ensures cause { IfErr result (λ fault. fault ≡ Read → Rose (S.faults store.old) (S.faults store.new)) }
+    ensures stays { StoreStays S.Store store.old store.new }
+{
+    match parents(alloc, store, ino) {
+        Ok(parents) => Ok(Ok(parents)),
+        Err(fault) => Ok(Err(Broken::of_fault(fault)?)),
+    }
+}
+
+/// Whether the mode is a directory's.
+fn is_directory(inode: &[u8; INODE_BYTES]) -> bool
+    ensures { IsTrue result ↔ IsOfDirectory inode.now }
+{
+    Kind::from_mode(u16_at(inode, 2)) == Some(Kind::Dir)
+}
