@@ -1,0 +1,4 @@
+pub mod Ordered
+pub mod Permuted
+pub mod Shared
+pub mod Cleared

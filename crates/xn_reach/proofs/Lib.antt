@@ -1,0 +1,4 @@
+pub mod StepRuns
+pub mod StepEnds
+pub mod Ways
+pub mod UnderWay
