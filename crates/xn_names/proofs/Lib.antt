@@ -1,0 +1,14 @@
+pub mod Filtered
+pub mod Mapped
+pub mod Dotdots
+pub mod Counted
+pub mod SortedAlike
+pub mod RecordOrder
+pub mod AskedRecords
+pub mod Moved
+pub mod Permuted
+pub mod RulesMoved
+pub mod Standing
+pub mod Ways
+pub mod Orders
+pub mod Runs

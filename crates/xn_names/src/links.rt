@@ -1,0 +1,40 @@
+//! The links of an inode.
+
+ghost use Rattle.std.specs.Prelude.{◌≡◌, ◌↔◌, IsTrue, length, map, count_by};
+ghost use Rattle.std.specs.List.Sorted.{IsNonDecreasingBy};
+ghost use Rattle.xn_meaning.specs.Namings.{naming as naming_inode, standing_in};
+ghost use Rattle.xn_meaning.specs.NameRules.{says_directory, HasDirectoryLinks};
+ghost use Rattle.xn_names.specs.Names.{naming_of};
+
+use crate::entry::Naming;
+use crate::order::naming;
+use crate::tree::is_unnamed;
+use xn_inode::Super;
+
+/// Whether an inode that is no directory has as many links as entries name it.
+pub fn has_links(namings: &[Naming], ino: u64, nlink: u32) -> bool
+    requires { IsNonDecreasingBy (λ n. n.ino) namings.now }
+    ensures { IsTrue result ↔ (nlink ≡ length (naming_inode ino (map naming_of namings.now))) }
+{
+    nlink as usize == naming(namings, ino).len()
+}
+
+/// Whether a directory, in which so many entries say of their inode that it is a directory, has 2 links and one for each of those;
+/// or none where it is detached.
+pub fn has_directory_links(
+    geometry: &Super,
+    namings: &[Naming],
+    dir: u64,
+    subdirectories: u64,
+    nlink: u32,
+) -> bool
+    requires { IsNonDecreasingBy (λ n. n.ino) namings.now }
+    ensures { subdirectories ≡ count_by says_directory (standing_in dir (map naming_of namings.now))
+        → (IsTrue result ↔ HasDirectoryLinks geometry.now (map naming_of namings.now) dir nlink) }
+{
+    if is_unnamed(geometry, namings, dir) {
+        nlink == 0
+    } else {
+        nlink >= 2 && (nlink - 2) as u64 == subdirectories
+    }
+}
