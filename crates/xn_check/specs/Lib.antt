@@ -1,1 +1,6 @@
 pub mod Places
+pub mod Spanned
+pub mod Known
+pub mod Judged
+pub mod Examined
+pub mod Checked

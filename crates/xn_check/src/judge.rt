@@ -1,0 +1,75 @@
+//! The rules from 5 on, over what was found of an image's live inodes.
+
+ghost use Rattle.std.specs.Prelude.{◌≡◌, ◌≢◌, ◌<◌, ℕ, IfErr, IfOk, List, length, map};
+ghost use Rattle.std.specs.List.{AllAdjacentBelow};
+ghost use Rattle.xn_meaning.specs.Manifests.{Manifest};
+ghost use Rattle.xn_facts.specs.Facts.{mapped_of};
+ghost use Rattle.xn_check.specs.Judged.{AreNamesOf, IsFound, IsSortedOut, Judges};
+ghost use Rattle.xn_check.specs.Known.{AreSearched};
+ghost use Rattle.xn_check.specs.declared.fault.CheckFault.TheVariants.{Memory, Read};
+
+use crate::fault::CheckFault;
+use crate::first::first_broken;
+use crate::names::Names;
+use crate::whole_image::{root_is_right, runs_are_right};
+use std::alloc::Global;
+use xn_census::SortedOut;
+use xn_facts::{Node, Run};
+use xn_inode::Super;
+use xn_names::in_order;
+use xn_reach::Reached;
+
+/// How many entries there are, where all rules from 5 on hold; else the first that is broken. The nodes are those of the live inodes,
+/// and the runs those of all their forks.
+pub(crate) fn judge(
+    alloc: Global,
+    geometry: &Super,
+    live: &[u64],
+    nodes: &[Node],
+    out: SortedOut,
+    runs: &[Run],
+) -> Result<u64, CheckFault>
+    requires live { AllAdjacentBelow (λ a b. a < b) live.now (length live.now) }
+    requires nodes { map (λ node. node.ino) nodes.now ≡ live.now }
+    requires out { IsSortedOut out }
+    ensures judges { (m : Manifest) (image : List ℕ) → IsFound geometry.now m image live.now nodes.now out → Judges geometry.now m image live.now out (map mapped_of runs.now) result }
+    ensures reads_nothing { IfErr result (λ fault. fault ≢ Read) }
+{
+    let entries = out.namings.len() as u64;
+    if !root_is_right(geometry, nodes, entries) {
+        return Err(CheckFault::of_image(5));
+    }
+    if !runs_are_right(alloc, runs, live)? {
+        return Err(CheckFault::of_image(9));
+    }
+    let names = names_of(alloc, geometry, out)?;
+    match first_broken(geometry, &names, nodes) {
+        Some((inode, broken)) => Err(CheckFault::Broken {
+            rule: broken.rule,
+            inode,
+            block: broken.block,
+        }),
+        None => Ok(entries),
+    }
+}
+
+/// Entries in order, and what they lead to from the root.
+fn names_of(alloc: Global, geometry: &Super, out: SortedOut) -> Result<Names, CheckFault>
+    requires { IsSortedOut out }
+    ensures searched { IfOk result AreSearched }
+    ensures names { IfOk result (AreNamesOf geometry.now out) }
+    ensures memory { IfErr result (λ fault. fault ≡ Memory) }
+{
+    let SortedOut {
+        wholes,
+        namings,
+        steps,
+    } = out;
+    let reached = Reached::from(alloc, &steps, geometry.root())?;
+    let namings = in_order(namings)?;
+    Ok(Names {
+        wholes,
+        namings,
+        reached,
+    })
+}

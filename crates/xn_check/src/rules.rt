@@ -1,0 +1,153 @@
+//! The rules between inodes, of one inode. Each holds where it is not looked at.
+
+ghost use Rattle.std.specs.Prelude.{◌≡◌, ◌<◌, ℕ, List, MatchBool, MatchOption, length};
+ghost use Rattle.std.specs.List.{AllAdjacentBelow};
+ghost use Rattle.xn_bytes.specs.Superblock.{Geometry};
+ghost use Rattle.xn_meaning.specs.Namings.{Naming};
+ghost use Rattle.xn_meaning.specs.Manifests.{IsLive, Manifest};
+ghost use Rattle.xn_meaning.specs.NameRules.{BreaksDots, BreaksEntries, BreaksRecords, BreaksRule, BreaksTree};
+ghost use Rattle.xn_facts.specs.Facts.{IsFirstOf, NodeHolds};
+ghost use Rattle.xn_check.specs.Known.{AreSearched, BreaksBetween, BreaksTwelve, IsWholeAmong, NamesHold, WholeIs, meant};
+
+use crate::names::Names;
+use xn_bytes::Kind;
+use xn_census::Whole;
+use xn_facts::{Broken, Node, lesser};
+use xn_inode::Super;
+use xn_names::{are_records, has_directory_links, has_dotdot, has_links, has_place, naming};
+
+/// The least rule that an inode breaks, by itself or against the entries of all.
+pub(crate) fn broken_rule(geometry: &Super, names: &Names, node: &Node) -> Option<Broken>
+    requires { AreSearched names.now }
+    ensures { (m : Manifest) (image : List ℕ) → NamesHold geometry.now m image names.now → IsLive geometry.now m node.now.ino → NodeHolds geometry.now image node.now
+        → IsFirstOf (BreaksRule geometry.now m image (meant names.now) node.now.ino) result }
+{
+    lesser(node.broken, broken_between(geometry, names, node))
+}
+
+/// The least of the rules between inodes that it breaks: the table of these rules, in their order.
+fn broken_between(geometry: &Super, names: &Names, node: &Node) -> Option<Broken>
+    requires { AreSearched names.now }
+    ensures { (m : Manifest) (image : List ℕ) → NamesHold geometry.now m image names.now → IsLive geometry.now m node.now.ino → NodeHolds geometry.now image node.now
+        → IsFirstOf (BreaksBetween geometry.now m image (meant names.now) node.now.ino) result }
+{
+    let whole = whole_of(&names.wholes, node.ino);
+    if !links_are_right(geometry, names, node, whole) {
+        return of_rule(12);
+    }
+    if !entries_are_right(whole) {
+        return of_rule(21);
+    }
+    if !dots_are_right(geometry, names, whole) {
+        return of_rule(22);
+    }
+    if !place_is_right(geometry, names, whole) {
+        return of_rule(23);
+    }
+    if !records_are_right(names, node) {
+        return of_rule(27);
+    }
+    None
+}
+
+/// A rule that names no block.
+fn of_rule(rule: u8) -> Option<Broken>
+    ensures { MatchOption result ⊥ (λ broken. (broken.rule ≡ rule) × (broken.block ≡ 0)) }
+{
+    Some(Broken { rule, block: 0 })
+}
+
+/// What was found of a directory, by halves.
+fn whole_of(wholes: &[Whole], dir: u64) -> Option<Whole>
+    requires { AllAdjacentBelow (λ a b. a.dir < b.dir) wholes.now (length wholes.now) }
+    ensures { IsWholeAmong wholes.now dir result }
+{
+    let at = wholes.partition_point(|whole| whole.dir < dir);
+    match wholes.get(at) {
+        Some(whole) if whole.dir == dir => Some(*whole),
+        _ => None,
+    }
+}
+
+/// Rule 12: the links of a directory are 2 and one for each directory in it, or none where it is detached; those of another inode are
+/// as many as the entries that name it.
+fn links_are_right(geometry: &Super, names: &Names, node: &Node, whole: Option<Whole>) -> bool
+    requires { AreSearched names.now }
+    ensures { (m : Manifest) (image : List ℕ) → WholeIs geometry.now m image (meant names.now) node.now.ino whole → NodeHolds geometry.now image node.now
+        → MatchBool result (¬ BreaksTwelve geometry.now m image (meant names.now) node.now.ino) (BreaksTwelve geometry.now m image (meant names.now) node.now.ino) }
+{
+    let Some(known) = node.known else {
+        return true;
+    };
+    if known.kind != Kind::Dir {
+        return has_links(&names.namings, node.ino, known.nlink);
+    }
+    match whole {
+        Some(whole) if whole.is_right => {
+            has_directory_links(
+                geometry,
+                &names.namings,
+                node.ino,
+                whole.subdirectories,
+                known.nlink,
+            )
+        }
+        _ => true,
+    }
+}
+
+/// Rule 21: the entries of a directory name live inodes, each as one of its kind.
+fn entries_are_right(whole: Option<Whole>) -> bool
+    ensures { (g : Geometry) (m : Manifest) (image : List ℕ) (namings : List Naming) (dir : ℕ) → WholeIs g m image namings dir whole → MatchBool result (¬ BreaksEntries g m image dir) (BreaksEntries g m image dir) }
+{
+    match whole {
+        Some(whole) => whole.is_right,
+        None => true,
+    }
+}
+
+/// Rule 22: dot is the directory, and dotdot that in which an entry names it.
+fn dots_are_right(geometry: &Super, names: &Names, whole: Option<Whole>) -> bool
+    requires { AreSearched names.now }
+    ensures { (m : Manifest) (image : List ℕ) (dir : ℕ) → WholeIs geometry.now m image (meant names.now) dir whole → MatchBool result (¬ BreaksDots geometry.now m image (meant names.now) dir) (BreaksDots geometry.now m image (meant names.now) dir) }
+{
+    match whole {
+        Some(whole) if whole.is_right => {
+            whole.has_dot && has_dotdot(geometry, &names.namings, whole.dir, whole.dotdot)
+        }
+        _ => true,
+    }
+}
+
+/// Rule 23: one entry names a directory, and entries lead to it from the root; or it is detached, and empty. No entry names the root.
+fn place_is_right(geometry: &Super, names: &Names, whole: Option<Whole>) -> bool
+    requires { AreSearched names.now }
+    ensures { (m : Manifest) (image : List ℕ) (dir : ℕ) → NamesHold geometry.now m image names.now → WholeIs geometry.now m image (meant names.now) dir whole
+        → MatchBool result (¬ BreaksTree geometry.now m image (meant names.now) dir) (BreaksTree geometry.now m image (meant names.now) dir) }
+{
+    match whole {
+        Some(whole) if whole.is_right => {
+            let is_reached = names.reached.has(whole.dir);
+            has_place(
+                geometry,
+                &names.namings,
+                whole.dir,
+                whole.is_empty,
+                is_reached,
+            )
+        }
+        _ => true,
+    }
+}
+
+/// Rule 27: the parent records of an inode are those that the entries ask for which name it.
+fn records_are_right(names: &Names, node: &Node) -> bool
+    requires { AreSearched names.now }
+    ensures { (g : Geometry) (m : Manifest) (image : List ℕ) → NamesHold g m image names.now → NodeHolds g image node.now
+        → MatchBool result (¬ BreaksRecords g image (meant names.now) node.now.ino) (BreaksRecords g image (meant names.now) node.now.ino) }
+{
+    match &node.parents {
+        Some(parents) => are_records(naming(&names.namings, node.ino), parents),
+        None => true,
+    }
+}
