@@ -1,5 +1,5 @@
 -- From a command's result to the answer over the image, and from the words that were read to any that they are.
-use Rattle.std.proofs.Common.{◌≡◌, ◌≢◌, ℕ, ◌+◌, ◌*◌, ◌≤◌, List, length, codes, Option, Some, None, inl, inr, ap, subst, arith}
+use Rattle.std.proofs.Common.{◌≡◌, ◌≢◌, ℕ, ◌+◌, ◌*◌, ◌≤◌, List, [], ◌∷◌, length, codes, Option, Some, None, inl, inr, ap, sym, subst, ◌∙◌, arith}
 use Rattle.std.specs.Prelude.{IfSome, decimal, slice_index}
 use Rattle.std.proofs.lemmas.Fmt.{decimal_injective}
 use Rattle.xn_meaning.specs.declared.status.Status.{Status}
@@ -8,7 +8,7 @@ use Rattle.xn_meaning.specs.Manifests.{Manifest, HasPlaces}
 use Rattle.xn_meaning.specs.Replies.{image_line}
 use Rattle.xn_bytes.specs.Escapes.{escaped}
 use Rattle.xn_bytes.specs.Superblock.{Geometry}
-use Rattle.xn_meaning.specs.Words.{AsksOf, AsksList, AsksResolve, AsksParents, AsksNothing}
+use Rattle.xn_meaning.specs.Words.{AsksOf, AsksList, AsksResolve, AsksParents, AsksCheck, AsksNothing}
 use Rattle.xn_meaning.specs.Paths.{parts_of}
 use Rattle.xn_meaning.specs.NameSpace.{End}
 use Rattle.xn_meaning.specs.Outcome.{Answers, Reads, ReadsImage, IsManifestIn, geometry_in}
@@ -43,7 +43,8 @@ pub answers_words : (words : List (List ℕ)) (command : Words) (manifest image 
     → AsksFor words command → Reads (EndsWith command) manifest image status text → Answers words manifest image status text
 answers_words words (commands.List ino) manifest image status text asks reads = inr (inl (ino, asks, reads))
 answers_words words (commands.Resolve path) manifest image status text asks reads = inr (inr (inl (path, asks, reads)))
-answers_words words (commands.Parents ino) manifest image status text asks reads = inr (inr (inr (ino, asks, reads)))
+answers_words words (commands.Parents ino) manifest image status text asks reads = inr (inr (inr (inl (ino, asks, reads))))
+answers_words words commands.Check manifest image status text asks reads = inr (inr (inr (inr (asks, reads))))
 
 -- ---- words are of one form
 
@@ -86,10 +87,15 @@ one_number command words ino other a b =
     let same : decimal ino ≡ decimal other = cc in
     decimal_injective ino other a.small b.small same
 
+-- the words of `check` are fewer than those of another form
+check_is_short : (words : List (List ℕ)) (a b c d : List ℕ) → AsksCheck words → words ≡ a ∷ b ∷ c ∷ d ∷ [] → ⊥
+check_is_short words a b c d check form = let both = sym (ap (λ (all : List (List ℕ)). length all) check.form) ∙ ap (λ (all : List (List ℕ)). length all) form in omega (arith, both)
+
 pub asks_something : (words : List (List ℕ)) (command : Words) → AsksFor words command → AsksNothing words → ⊥
 asks_something words (commands.List ino) asks none = none.no_list ino asks
 asks_something words (commands.Resolve path) asks none = none.no_resolve path asks
 asks_something words (commands.Parents ino) asks none = none.no_parents ino asks
+asks_something words commands.Check asks none = none.no_check asks
 
 -- ---- what is read
 
@@ -102,6 +108,7 @@ walk_later extra first between now one few = omega (arith, one, few)
 later : (command : Words) (g : Geometry) (m : Manifest) (x : List ℕ) (first between now : ℕ) → between ≤ first + 1 → ReadsAtMost command g m x between now → ReadsAtMost command g m x (first + 1) now
 later (commands.List ino) g m x first between now one few = (list_later (list_cost (inode_of g x ino)) first between now one few.0, λ other. let once = few.1 other in omega (arith, one, once))
 later (commands.Parents ino) g m x first between now one few = walk_later (list_most (inode_of g x ino)) first between now one few
+later commands.Check g m x first between now one few = tt
 later (commands.Resolve path) g m x first between now one few = λ most bound. walk_later ((1 + most) * length (parts_of path)) first between now one (few most bound)
 
 -- what a command reads over the image whose superblock was found
@@ -114,6 +121,7 @@ reads_over_image command m (Some x) g first between now found one few = later co
 fewer : (command : Words) (g : Geometry) (m : Manifest) (x : List ℕ) (before now : ℕ) → now ≤ before → ReadsAtMost command g m x before now
 fewer (commands.List ino) g m x before now few = (omega (arith, few), λ other. omega (arith, few))
 fewer (commands.Parents ino) g m x before now few = omega (arith, few)
+fewer commands.Check g m x before now few = tt
 fewer (commands.Resolve path) g m x before now few = λ most bound. let extra : ℕ = (1 + most) * length (parts_of path) in let fine : now ≤ before + extra = omega (arith, few) in fine
 
 pub few_reads : (command : Words) (m : Manifest) (image : Option (List ℕ)) (before now : ℕ) → now ≤ before → IfSome image (λ x. ReadsAtMost command (geometry_in x) m x before now)
@@ -153,6 +161,7 @@ pub command_reads : (command : Words) (m : Manifest) (manifest image : Option (L
 command_reads (commands.List ino) m manifest image before now is few = (list_reads m image ino before now few, refused_reads m manifest image ino before now is few)
 command_reads (commands.Resolve path) m manifest image before now is few = resolve_reads m manifest image path before now is few
 command_reads (commands.Parents ino) m manifest image before now is few = few
+command_reads commands.Check m manifest image before now is few = tt
 
 -- where there is no manifest nothing is read
 none_at_all : (command : Words) (manifest : Option (List ℕ)) (x : List ℕ) (before now : ℕ) → now ≡ before → CommandReads command manifest (Some x) before now
@@ -161,6 +170,7 @@ none_at_all (commands.List ino) (Some text) x before now same = (omega (arith, s
 none_at_all (commands.Resolve path) None x before now same = tt
 none_at_all (commands.Resolve path) (Some text) x before now same = λ most bound. let extra : ℕ = (1 + most) * length (parts_of path) in let fine : now ≤ before + 1 + extra = omega (arith, same) in fine
 none_at_all (commands.Parents ino) manifest x before now same = omega (arith, same)
+none_at_all commands.Check manifest x before now same = tt
 
 pub no_reads : (command : Words) (manifest image : Option (List ℕ)) (before now : ℕ) → now ≡ before → CommandReads command manifest image before now
 no_reads command manifest (Some x) before now same = none_at_all command manifest x before now same
@@ -169,6 +179,7 @@ no_reads (commands.List ino) (Some text) None before now same = (tt, tt)
 no_reads (commands.Resolve path) None None before now same = tt
 no_reads (commands.Resolve path) (Some text) None before now same = tt
 no_reads (commands.Parents ino) manifest None before now same = tt
+no_reads commands.Check manifest None before now same = tt
 
 -- what the command that was read reads at most is what the words allow
 pub reads_for : (words : List (List ℕ)) (command : Words) (manifest image : Option (List ℕ)) (before now : ℕ)
@@ -190,4 +201,10 @@ reads_for words (commands.Parents ino) manifest image before now asks few = reco
   refused = λ other also. absurd (not_list_and_parents words other ino also asks);
   resolve = λ path also. absurd (not_both (codes "parents") words ino path parents_no_path asks also);
   parents = λ other also. subst (λ (n : ℕ). ParentsReads image n before now) (one_number (codes "parents") words ino other asks also) few;
+}
+reads_for words commands.Check manifest image before now asks few = record {
+  list = λ ino also. absurd (check_is_short words _ _ _ _ asks also.form);
+  refused = λ ino also. absurd (check_is_short words _ _ _ _ asks also.form);
+  resolve = λ path also. absurd (check_is_short words _ _ _ _ asks also.form);
+  parents = λ ino also. absurd (check_is_short words _ _ _ _ asks also.form);
 }

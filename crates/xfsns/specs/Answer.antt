@@ -11,7 +11,8 @@ use Rattle.xn_meaning.specs.NameSpace.{End}
 use Rattle.xn_bytes.specs.Inode.{inode_of}
 use Rattle.xn_bytes.specs.Costs.{list_cost}
 use Rattle.xn_meaning.specs.Reading.{ListEnds, ResolveEnds, ParentsEnd, IsAttached}
-use Rattle.xn_meaning.specs.Outcome.{AsksToRead, IsManifestIn, end_status, end_text, geometry_in}
+use Rattle.xn_meaning.specs.Checking.{CheckEnds}
+use Rattle.xn_meaning.specs.Outcome.{AsksToRead, HasManifest, IsManifestIn, end_status, end_text, geometry_in}
 use Rattle.xn_text.specs.declared.words.Words.{Words}
 use Rattle.xn_text.specs.declared.words.Words.TheVariants as commands
 use Rattle.xn_attr.specs.Costs.{list_most}
@@ -26,14 +27,16 @@ abbrev pub EndsWith : Words → Geometry → Manifest → List ℕ → End → T
 EndsWith (commands.List ino) g m = ListEnds g m ino
 EndsWith (commands.Resolve path) g m = ResolveEnds g m path
 EndsWith (commands.Parents ino) g m = ParentsEnd g m ino
+EndsWith commands.Check g m = CheckEnds g m
 
--- What a command reads over an image, once the superblock is read: for a list a look at the inode, and, where it is that of
+-- What a command that looks at a part of an image reads of it, once the superblock is read: for a list a look at the inode, and, where it is that of
 -- an attached directory, what the list costs; for a walk, by a bound on each look-up, one look and one look-up for each part.
 abbrev pub ReadsAtMost : Words → Geometry → Manifest → List ℕ → ℕ → ℕ → Type 0
 ReadsAtMost (commands.List ino) g m image before now =
     (now ≤ before + 1 + list_cost (inode_of g image ino)) × (¬ IsAttached g m (inode_of g image ino) ino → now ≤ before + 1)
 ReadsAtMost (commands.Resolve path) g m image before now = (most : ℕ) → CostsAtMost g m image path most → now ≤ before + (1 + most) * length (parts_of path)
 ReadsAtMost (commands.Parents ino) g m image before now = now ≤ before + list_most (inode_of g image ino)
+ReadsAtMost commands.Check g m image before now = Unit {0}
 
 -- the same with the read of the superblock, where an image is told
 abbrev pub ListReads : Option (List ℕ) → ℕ → ℕ → ℕ → Type 0
@@ -62,6 +65,7 @@ abbrev pub CommandReads : Words → Option (List ℕ) → Option (List ℕ) → 
 CommandReads (commands.List ino) manifest image before now = ListReads image ino before now × RefusedReads manifest image ino before now
 CommandReads (commands.Resolve path) manifest image before now = ResolveReads manifest image path before now
 CommandReads (commands.Parents ino) manifest image before now = ParentsReads image ino before now
+CommandReads commands.Check manifest image before now = Unit {0}
 
 -- The reads of a call, by its words.
 pub record ReadsFor (words : List (List ℕ)) (manifest image : Option (List ℕ)) (before now : ℕ) : Type 0 where
@@ -91,11 +95,11 @@ IsOfWhole SayFault left = Unit {0}
 IsOfWhole Memory left = Unit {0}
 IsOfWhole Long left = Unit {0}
 
--- the count of read faults rose, of the machine or of the manifest's source
-abbrev pub ReadRose : ℕ → ℕ → ℕ → ℕ → Type 0
-ReadRose before now source_before source_now = Rose before now ⊎ Rose source_before source_now
+-- the count of read faults rose: of the machine, where the manifest is one, or of the manifest's source
+abbrev pub ReadRose : Option (List ℕ) → ℕ → ℕ → ℕ → ℕ → Type 0
+ReadRose manifest before now source_before source_now = (Rose before now × HasManifest manifest) ⊎ Rose source_before source_now
 
 -- A read that failed: a count rose, and the words ask for something that is read. Want of memory has no cause.
-abbrev pub HasReadCause : List (List ℕ) → ℕ → ℕ → ℕ → ℕ → Fault → Type 0
-HasReadCause words before now source_before source_now faults.Memory = Unit {0}
-HasReadCause words before now source_before source_now faults.Read = AsksToRead words × ReadRose before now source_before source_now
+abbrev pub HasReadCause : List (List ℕ) → Option (List ℕ) → ℕ → ℕ → ℕ → ℕ → Fault → Type 0
+HasReadCause words manifest before now source_before source_now faults.Memory = Unit {0}
+HasReadCause words manifest before now source_before source_now faults.Read = AsksToRead words × ReadRose manifest before now source_before source_now

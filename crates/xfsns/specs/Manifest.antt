@@ -1,6 +1,6 @@
 -- What is found where the manifest is to be, by what is left of its source.
 use Rattle.std.specs.Prelude.{◌≡◌, ℕ, ◌<◌, ◌≤◌, List, [], length, Option, IfSome}
-use Rattle.xn_meaning.specs.Manifests.{IsFirstBadLine, most_bytes}
+use Rattle.xn_meaning.specs.Manifests.{IsManifest, IsFirstBadLine, most_bytes}
 use Rattle.xn_meaning.specs.Outcome.{IsManifestIn}
 use Rattle.xn_machine.specs.Input.{Takes, EndsRightly}
 use Rattle.xfsns.specs.declared.manifest.Found.{Found}
@@ -8,8 +8,8 @@ use Rattle.xfsns.specs.declared.manifest.Found.TheVariants as found
 
 -- what was found is what the bytes are that were left
 abbrev pub FoundIn : Option (List ℕ) → Found → Type 0
-FoundIn left (found.Manifest m) = IfSome left (λ text. IsManifestIn text m)
-FoundIn left (found.Outside line) = IfSome left (λ text. (length text ≤ most_bytes) × IsFirstBadLine text line)
+FoundIn left (found.Manifest m) = IsManifest m × IfSome left (λ text. IsManifestIn text m)
+FoundIn left (found.Outside line) = (0 < line) × IfSome left (λ text. (length text ≤ most_bytes) × IsFirstBadLine text line)
 FoundIn left found.Long = IfSome left (λ text. most_bytes < length text)
 
 -- nothing is left where there weren't too many

@@ -8,12 +8,12 @@ ghost use Rattle.xn_meaning.specs.Replies as texts;
 ghost use Rattle.xn_meaning.specs.declared.status.Status.TheVariants.{Image};
 ghost use Rattle.xn_meaning.specs.Words.{AsksNothing};
 ghost use Rattle.xn_machine.specs.Frames.{MachineStays};
-ghost use Rattle.xn_ns.specs.Ends.{end_of};
 ghost use Rattle.xn_text.specs.Viewed.{reply_of};
 ghost use Rattle.xfsns.specs.Answer.{EndsWith, IsAnswerTo, ReadsFor, CommandReads, ReadsAtMost, HasReadCause, ReadRose, IsOfWhole, IsOfImage};
+ghost use Rattle.xfsns.specs.Home.{end_said};
 ghost use Rattle.xfsns.specs.declared.answer.Fault.TheVariants.{Read, Memory};
 
-use crate::home::{ask_image, read_super};
+use crate::home::{Said, ask_image, read_super};
 use crate::manifest::{Found, read_manifest};
 use std::alloc::{AllocError, Global};
 use xn_bytes::Memory as OutOfMemory;
@@ -21,7 +21,9 @@ use xn_check::pool_of;
 use xn_machine::{Failed, Machine, Source};
 use xn_meaning::Status;
 use xn_ns::SeeFault;
-use xn_text::{Manifest, Reply, Words, WordsFault, image_line, manifest_line, usage_line};
+use xn_text::{
+    Manifest, Reply, Words, WordsFault, image_line, manifest_line, summary_line, usage_line,
+};
 
 /// A status, and the text to be told with it.
 #[derive(Debug, Drop)]
@@ -76,7 +78,7 @@ pub fn answer_words<M: Machine, F: Source>(
     ensures reads_nothing { AsksNothing (map string_bytes words.now) → (M.reads machine.new ≡ M.reads machine.old) × (source.new ≡ source.old) }
     ensures answer { IfOk result (λ answer. Answers (map string_bytes words.now) (F.left source.old) (M.image machine.old) answer.status answer.text.items) }
     ensures whole { IfOk result (λ answer. IsOfWhole answer.status (F.left source.new)) }
-    ensures cause { IfErr result (HasReadCause (map string_bytes words.now) (M.read_faults machine.old) (M.read_faults machine.new) (F.faults source.old) (F.faults source.new)) }
+    ensures cause { IfErr result (HasReadCause (map string_bytes words.now) (F.left source.old) (M.read_faults machine.old) (M.read_faults machine.new) (F.faults source.old) (F.faults source.new)) }
 {
     match Words::read(alloc, words) {
         Ok(command) => answer_command(alloc, machine, source, &command),
@@ -100,7 +102,7 @@ fn answer_command<M: Machine, F: Source>(
     ensures reads { CommandReads command.now (F.left source.old) (M.image machine.old) (M.reads machine.old) (M.reads machine.new) }
     ensures answer { IfOk result (λ answer. Reads (EndsWith command.now) (F.left source.old) (M.image machine.old) answer.status answer.text.items) }
     ensures whole { IfOk result (λ answer. IsOfWhole answer.status (F.left source.new)) }
-    ensures cause { IfErr result (λ fault. fault ≡ Read → ReadRose (M.read_faults machine.old) (M.read_faults machine.new) (F.faults source.old) (F.faults source.new)) }
+    ensures cause { IfErr result (λ fault. fault ≡ Read → ReadRose (F.left source.old) (M.read_faults machine.old) (M.read_faults machine.new) (F.faults source.old) (F.faults source.new)) }
 {
     match read_manifest(alloc, source)? {
         Found::Manifest(manifest) => answer_by(alloc, machine, &manifest, command),
@@ -150,15 +152,19 @@ fn broken(alloc: Global, rule: u8) -> Result<Answer, Fault>
 }
 
 /// The answer to a command that ended so.
-fn answer_of(alloc: Global, ended: Result<Reply, SeeFault>) -> Result<Answer, Fault>
-    ensures answer { IfOk result (λ answer. IsAnswerTo (end_of ended) answer.status answer.text.items) }
+fn answer_of(alloc: Global, ended: Result<Said, SeeFault>) -> Result<Answer, Fault>
+    ensures answer { IfOk result (λ answer. IsAnswerTo (end_said ended) answer.status answer.text.items) }
     ensures kind { IfOk result (λ answer. IsOfImage answer.status) }
     ensures read { IfErr result (λ fault. fault ≡ Read → ended ≡ Err SeeFault.Read) }
 {
     match ended {
-        Ok(reply) => Ok(Answer {
+        Ok(Said::Reply(reply)) => Ok(Answer {
             status: Status::Done,
             text: text_of(alloc, &reply)?,
+        }),
+        Ok(Said::Summary(summary)) => Ok(Answer {
+            status: Status::Done,
+            text: summary_line(alloc, &summary)?,
         }),
         Err(SeeFault::Broken { rule, inode, block }) => Ok(Answer {
             status: Status::Image,

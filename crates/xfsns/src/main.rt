@@ -1,6 +1,6 @@
 //! `xfsns` reads the names of an XFS version 5 image: `xfsns list IMAGE MANIFEST INO` lists a directory,
-//! `xfsns resolve IMAGE MANIFEST PATH` walks a path from the root, and `xfsns parents IMAGE MANIFEST INO` tells the entries that
-//! name an inode.
+//! `xfsns resolve IMAGE MANIFEST PATH` walks a path from the root, `xfsns parents IMAGE MANIFEST INO` tells the entries that
+//! name an inode, and `xfsns check IMAGE MANIFEST` tells which rule is broken first, or that all hold.
 #![tactic(auto)]
 
 mod answer;

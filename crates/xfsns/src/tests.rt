@@ -1,6 +1,7 @@
 //! Tests of the program's one call, over machines in memory and over a file. Their tables are read as `xn_rows` says.
 
 mod attributes;
+mod checks;
 mod directories;
 mod edge;
 mod forks;
@@ -35,6 +36,8 @@ struct Answer {
 #[derive(Clone, Copy, Debug)]
 enum Asked {
     Program,
+    /// The program, for more calls.
+    Checker,
     /// The root directory, as a call of `Dir`.
     Root,
     /// The tree of the root, as a call of `Tree`.
@@ -64,17 +67,18 @@ fn answers(alloc: Global, asked: Asked, line: &str) -> Result<Option<(Answer, An
         told: row.told(alloc)?,
     };
     let answer = match asked {
-        Asked::Program => run(alloc, &row)?,
+        Asked::Program => run(alloc, &row, CALLS)?,
+        Asked::Checker => run(alloc, &row, checks::CALLS)?,
         Asked::Root => directories::ask_root(alloc, &row, directories::CALLS)?,
         Asked::Tree => directories::ask_root(alloc, &row, CALLS)?,
     };
     Ok(Some((answer, wanted)))
 }
 
-/// Makes the one call over a machine in memory.
-fn run(alloc: Global, row: &Row<'_>) -> Result<Answer, Fail> {
+/// Makes the one call over a machine in memory, with room for so many calls.
+fn run(alloc: Global, row: &Row<'_>, calls: u64) -> Result<Answer, Fail> {
     let image = row.image(alloc)?;
-    let mut machine = MemMachine::new(alloc, image, row.fails(alloc)?, None, CALLS, ROOM)?;
+    let mut machine = MemMachine::new(alloc, image, row.fails(alloc)?, None, calls, ROOM)?;
     let mut manifest = MemSource::new(row.manifest(alloc)?, Vec::new(alloc));
     let mut script = MemSource::new(Vec::new(alloc), Vec::new(alloc));
     let words = row.words(alloc)?;

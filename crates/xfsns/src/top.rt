@@ -18,8 +18,8 @@ use xn_meaning::Status;
 ///
 /// `list IMAGE MANIFEST INO` lists a directory in any of its forms. `resolve IMAGE MANIFEST PATH` walks a path from the
 /// root and tells the inode to which it leads. `parents IMAGE MANIFEST INO` tells the entries that name an inode, by its parent
-/// records. The two files are the machine's and the manifest's. The manifest is read to its end before the image is; the script is
-/// not read.
+/// records. `check IMAGE MANIFEST` tells the first rule that is broken, or a summary of the image where all hold. The two files are
+/// the machine's and the manifest's. The manifest is read to its end before the image is; the script is not read.
 pub fn xfsns<M: Machine, F: Source, S: Source>(
     alloc: Global,
     words: &[String],
@@ -71,6 +71,9 @@ fn tell<M: Machine>(machine: &mut M, answer: &Answer) -> Status
     ensures write_faults { M.write_faults machine.old ≤ M.write_faults machine.new }
     ensures say_faults { M.say_faults machine.old ≤ M.say_faults machine.new }
 {
+    if answer.text.is_empty() {
+        return answer.status;
+    }
     match machine.say(&answer.text) {
         Ok(()) => answer.status,
         Err(_) => Status::SayFault,

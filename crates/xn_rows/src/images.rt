@@ -11,7 +11,7 @@ use crate::trees::{put_leaf_form, put_node_form};
 use std::alloc::Global;
 use xn_bytes::Kind;
 use xn_make::{
-    DATA_FORK, DIRECTORY_BLOCK, Named, ROOT, block_directory, block_image, directory_inode,
+    DATA_FORK, DIRECTORY_BLOCK, Named, ROOT, block_directory, block_image, directory_inode, sample,
 };
 
 /// Parent 128: the directory `sub` (129), the file `file` (144); and as directories `odd` (145, a file), `gone` (far behind
@@ -105,6 +105,7 @@ fn made_image(alloc: Global, word: &str) -> Result<Vec<u8>, RowFault> {
         "leaf" => image_in_leaf_form(alloc, spelled),
         "node" => image_in_node_form(alloc, spelled),
         "full" => image_of_full_blocks(alloc, spelled),
+        "sample" => sample_image(alloc),
         _ => Err(RowFault::Word),
     }
 }
@@ -138,6 +139,12 @@ fn image_in_node_form(alloc: Global, spelled: &str) -> Result<Vec<u8>, RowFault>
 fn image_of_full_blocks(alloc: Global, blocks: &str) -> Result<Vec<u8>, RowFault> {
     let mut image = xn_make::image(alloc, &[])?;
     put_full(alloc, &mut image, blocks)?;
+    Ok(image)
+}
+
+/// The sample image of 64 inodes, with room for a pool of 64 blocks.
+fn sample_image(alloc: Global) -> Result<Vec<u8>, RowFault> {
+    let (image, _) = sample(alloc, 64, 64)?;
     Ok(image)
 }
 

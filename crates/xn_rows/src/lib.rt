@@ -22,6 +22,7 @@
 //! | `leaf:NAMES` | the root is in leaf form, and has these names |
 //! | `node:COUNT:NAMES` | the root is in node form, with at most so many leaf entries in a leaf |
 //! | `full:BLOCKS` | the root is in node form, with so many data blocks of 14 names of 255 bytes each |
+//! | `sample` | the inodes 128 to 191, none with a name: 16 directories, the first of them the root, and empty files; a pool of 64 blocks from 512 on |
 //! | `tree`, `demo` | directories in short form, as [`images`] spells them |
 //! | `leaf`, `single`, `node`, `deep` | roots in leaf and in node form, as [`images`] spells them |
 //!

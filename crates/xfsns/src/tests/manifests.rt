@@ -18,6 +18,10 @@ list IMAGE MANIFEST 128 | block manifest: | 3 manifest line 1
 list IMAGE MANIFEST 128 | none manifest: | 3 manifest line 1
 list IMAGE MANIFEST 128 | none | 2 image rule 1 inode 0 block 0
 list IMAGE MANIFEST | block manifest: | 1 usage
+check IMAGE MANIFEST | block manifest: | 3 manifest line 1
+check IMAGE MANIFEST | none manifest: | 3 manifest line 1
+check IMAGE MANIFEST | none | 2 image rule 1 inode 0 block 0
+check IMAGE | block manifest: | 1 usage
 resolve IMAGE MANIFEST / | block manifest:'xfsns-manifest_1/pool_1_0/' | 3 manifest line 2
 parents IMAGE MANIFEST 128 | block manifest:'xfsns-manifest_1/chunk_128_0000000000000000/pool_520_1/chunk_192_0000000000000000/' | 3 manifest line 4
 list IMAGE MANIFEST 128 | short:0100_00000080_010060'a'01_00000083 manifest:'xfsns-manifest_1/chunk_128_0000000000000000' | 0 ok 1 / 131 reg a
@@ -52,6 +56,7 @@ parents IMAGE MANIFEST 144 | block manifest:'xfsns-manifest_1/chunk_720575940379
 
 # blocks of the pool likewise, and none that holds a listed inode
 list IMAGE MANIFEST 129 | block manifest:'xfsns-manifest_1/pool_0_1/' | 2 image rule 2 inode 0 block 0
+check IMAGE MANIFEST | block manifest:'xfsns-manifest_1/pool_0_1/' | 2 image rule 2 inode 0 block 0
 list IMAGE MANIFEST 129 | block manifest:'xfsns-manifest_1/chunk_128_0000000000000000/pool_16_1/' | 2 image rule 2 inode 0 block 0
 list IMAGE MANIFEST 129 | block manifest:'xfsns-manifest_1/chunk_128_0000000000000000/pool_1_15/pool_24_40/' | 0 error 2 ENOENT
 list IMAGE MANIFEST 129 | block manifest:'xfsns-manifest_1/chunk_128_0000000000000000/pool_1_16/' | 2 image rule 2 inode 0 block 0

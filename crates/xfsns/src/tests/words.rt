@@ -36,10 +36,16 @@ resolve IMAGE MANIFEST a\5C | none | 1 usage
 resolve IMAGE MANIFEST a\ | none | 1 usage
 resolve IMAGE MANIFEST a{_}b | none | 1 usage
 
+check | none | 1 usage
+check IMAGE | none | 1 usage
+check IMAGE -MANIFEST | none | 1 usage
+check IMAGE MANIFEST 128 | none | 1 usage
+
 # the same where there is a device that can be read
 apply IMAGE | block | 1 usage
 list IMAGE MANIFEST 0128 | block | 1 usage
 resolve IMAGE MANIFEST a\zz | block | 1 usage
+check IMAGE MANIFEST 128 | block | 1 usage
 ";
 
 #[test]

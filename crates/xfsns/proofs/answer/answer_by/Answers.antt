@@ -1,6 +1,6 @@
 use Rattle.std.proofs.Common.{◌+◌}
 use Rattle.std.proofs.lemmas.Result.{IfOk-weaker}
-use Rattle.xn_ns.specs.Ends.{end_of}
+use Rattle.xfsns.specs.Home.{end_said}
 use Rattle.xfsns.specs.Answer.{EndsWith}
 use Rattle.xfsns.proofs.AnswerLemmas.{over_image, out_of_place, reads_over_image, few_reads}
 use Rattle.xfsns.proofs.answer.answer_by.Goals as goal
@@ -22,9 +22,9 @@ pub returns-clause-answer : goal.returns-clause-answer
 returns-clause-answer g c =
     let found = rw c.in-Some.is at c.in_ok-geometry.ensures.found in
     let pool = rw c.in-Some-2.is at c.in_ok-pool.ensures in
-    let ends = rw c.in_ok-geometry.ensures.stays.image_stays at c.ask_image-ended.ensures.answered.ends in
+    let ends = rw c.in_ok-geometry.ensures.stays.image_stays at c.ask_image-ended.ensures.ended.ends in
     IfOk-weaker c.answer_of.result _ _
-    (λ answer said. over_image (EndsWith c.args.command.now) c.args.manifest.now (g.M.Machine.image c.args.machine.now) c.in-Some.geometry (end_of c.ask_image-ended.result) answer.status answer.text.items found pool.places ends said)
+    (λ answer said. over_image (EndsWith c.args.command.now) c.args.manifest.now (g.M.Machine.image c.args.machine.now) c.in-Some.geometry (end_said c.ask_image-ended.result) answer.status answer.text.items found pool.places ends said)
     c.answer_of.ensures.answer
 
 pub returns-clause-reads : goal.returns-clause-reads

@@ -19,5 +19,5 @@ returns-in-Ok-clause-answer g c =
 pub returns-in-Ok-clause-cause : goal.returns-in-Ok-clause-cause
 returns-in-Ok-clause-cause g c =
     IfErr-weaker c.answer_command.result _ _
-    (λ fault rose. cause_for_words _ c.in-Ok.command _ _ _ _ fault c.in-Ok.ensures.ok rose)
+    (λ fault rose. cause_for_words _ c.in-Ok.command _ _ _ _ _ fault c.in-Ok.ensures.ok rose)
     c.answer_command.ensures.cause
