@@ -35,13 +35,14 @@ def mapped(path):
     return sorted(int(first) + k for first, count in extents for k in range(int(count)))
 
 
-match sys.argv[1:]:
-    case ["inodes", path, *own]:
-        for inode in inodes(path):
-            if str(inode) not in own:
-                print(inode)
-    case ["pool", path, bmap]:
-        blocks = mapped(bmap)
-        sys.exit(0 if blocks and pool(path) == blocks else 1)
-    case _:
-        sys.exit(__doc__)
+if __name__ == "__main__":
+    match sys.argv[1:]:
+        case ["inodes", path, *own]:
+            for inode in inodes(path):
+                if str(inode) not in own:
+                    print(inode)
+        case ["pool", path, bmap]:
+            blocks = mapped(bmap)
+            sys.exit(0 if blocks and pool(path) == blocks else 1)
+        case _:
+            sys.exit(__doc__)
