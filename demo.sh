@@ -78,3 +78,4 @@ show resolve demo.img demo.manifest '/caf\c3\a9/menu'
 show list block.img block.manifest 128
 show resolve block.img block.manifest /entry-0003
 show list sample.img sample.manifest 128
+show check sample.img sample.manifest
