@@ -5,7 +5,7 @@ use Rattle.std.proofs.lemmas.Bool.{cases_lt}
 use Rattle.std.proofs.lemmas.List.{at_drop_more, get_or_default}
 use Rattle.xn_bytes.specs.Superblock.{Geometry}
 use Rattle.xn_meaning.specs.Manifests.{Manifest, AreChunks, ChunkLists, IsLive}
-use Rattle.xn_meaning.specs.Namings.{AreLive}
+use Rattle.xn_rules.specs.Namings.{AreLive}
 use Rattle.xn_live.specs.Gathering.{AreAdded, AreRisingBelow, IsLiveOf}
 use Rattle.xn_live.proofs.Added.{none_rise, rising_higher}
 

@@ -2,7 +2,7 @@
 
 ghost use Rattle.std.specs.Prelude.{◌≡◌, ◌↔◌, ◌^◌, ◌<◌, ◌≤◌, length, slice_index, Contains, IfOk, IsTrue, MatchOption};
 ghost use Rattle.std.specs.List.{AllAdjacentBelow};
-ghost use Rattle.xn_meaning.specs.Namings.{AreLive};
+ghost use Rattle.xn_rules.specs.Namings.{AreLive};
 ghost use Rattle.xn_live.specs.Gathering.{AreAdded, AreRisingBelow, IsLiveAt};
 
 use std::alloc::Global;

@@ -1,13 +1,9 @@
 pub mod Errors
+pub mod Statuses
 pub mod Words
 pub mod Replies
 pub mod Paths
 pub mod Manifests
-pub mod InodeRules
-pub mod Namings
-pub mod NameRules
-pub mod Sound
 pub mod NameSpace
+pub mod NameSpaces
 pub mod Reading
-pub mod Checking
-pub mod Outcome

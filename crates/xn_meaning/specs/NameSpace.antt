@@ -1,11 +1,15 @@
 -- The map from directory and name to inode, and the walk of a path through it. Nothing of blocks and bytes is here.
-use Rattle.std.specs.Prelude.{◌≡◌, ◌≢◌, ◌⊎◌, ℕ, nat_lt, if◌then◌else◌, List, [], ◌∷◌, length, Option, Some, None}
+use Rattle.std.specs.Prelude.{◌≡◌, ◌≢◌, ◌⊎◌, ℕ, nat_lt, if◌then◌else◌, List, [], ◌∷◌, length, All, Contains, Option, Some, None}
+use Rattle.std.specs.List.{AllAdjacentBelow}
+use Rattle.std.specs.Ordering.{nat_cmp}
+use Rattle.std.specs.Cmp.Lexicographic.{slice_cmp}
+use Rattle.std.specs.declared.cmp.Ordering.TheVariants.{Less}
 use Rattle.xn_bytes.specs.declared.kind.Kind.{Kind}
 use Rattle.xn_bytes.specs.declared.kind.Kind.TheVariants.{Dir}
 use Rattle.xn_meaning.specs.declared.errno.Errno.{Errno}
 use Rattle.xn_meaning.specs.declared.errno.Errno.TheVariants.{ENOENT, ENOTDIR, EINVAL, ENAMETOOLONG}
 use Rattle.xn_bytes.specs.Names.{IsName}
-use Rattle.xn_meaning.specs.Replies.{Reply, EntryOf, ErrorOf, Summary}
+use Rattle.xn_meaning.specs.Replies.{Reply, EntryOf, ErrorOf, Line, Summary}
 
 -- ---- how a command that only reads ends
 
@@ -25,6 +29,12 @@ pub record Place : Type 0 where
 -- what a name in a directory stands for, if it stands for anything
 abbrev pub NameMap : Type 0
 NameMap = ℕ → List ℕ → Option Place
+
+-- The lines of all the names that a map has in a directory, sorted by the bytes of the names, each once.
+pub record AreLinesOfMap (names : List ℕ → Option Place) (lines : List Line) : Type 0 where
+  pub each : All (λ line. names line.name ≡ Some (record { ino = line.ino; kind = line.kind })) lines
+  pub complete : (name : List ℕ) (place : Place) → names name ≡ Some place → Contains lines (record { ino = place.ino; kind = place.kind; name = name })
+  pub rising : AllAdjacentBelow (λ a b. slice_cmp nat_cmp a.name b.name ≡ Less) lines (length lines)
 
 -- ---- the walk
 

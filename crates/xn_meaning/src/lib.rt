@@ -1,5 +1,5 @@
-//! What the program's words, replies and statuses mean over an image: the definitions of `specs/`, which the commands' contracts
-//! cite, and the error numbers and statuses that they speak of.
+//! What the words and replies of the program mean, and what its reading commands answer of an image: the definitions of `specs/`, which
+//! the contracts of the commands cite, and the error numbers and statuses that they speak of.
 #![tactic(auto)]
 
 mod errno;

@@ -1,5 +1,5 @@
 ghost use Rattle.std.specs.Prelude.{◌≡◌};
-ghost use Rattle.xn_meaning.specs.Outcome.{status_number};
+ghost use Rattle.xn_meaning.specs.Statuses.{status_number};
 
 /// How a run of the program ends.
 #[derive(Clone, Copy, Debug, PartialEq, Eq)]

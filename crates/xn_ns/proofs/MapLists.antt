@@ -14,7 +14,7 @@ use Rattle.xn_meaning.specs.NameSpace.{Says, Place, NameMap}
 use Rattle.xn_meaning.specs.Reading.{IsDirectoryIn, HasMap, HaveName, Lists, ListEnds}
 use Rattle.xn_dir.proofs.Members.{in_map}
 use Rattle.xn_dir.proofs.Names.{adjacent_map}
-use Rattle.xn_ns.specs.Lines.{AreLinesOfMap}
+use Rattle.xn_meaning.specs.NameSpace.{AreLinesOfMap}
 use Rattle.xn_ns.proofs.NamesOfMap.{one_place}
 
 abbrev place_of : Entry → Place

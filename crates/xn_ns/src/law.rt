@@ -1,7 +1,7 @@
 //! What the replies over an image have to do with the map of its names.
 
 ghost use Rattle.std.specs.Prelude.{ℕ, List};
-ghost use Rattle.xn_ns.specs.Lines.{AreLinesOfMap};
+ghost use Rattle.xn_meaning.specs.NameSpace.{AreLinesOfMap};
 ghost use Rattle.xn_bytes.specs.Superblock.{Geometry};
 ghost use Rattle.xn_meaning.specs.Replies.{Reply, Line, ListOf};
 ghost use Rattle.xn_meaning.specs.Manifests.{Manifest};

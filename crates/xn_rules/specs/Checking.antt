@@ -8,11 +8,11 @@ use Rattle.xn_bytes.specs.Superblock.{Geometry}
 use Rattle.xn_bytes.specs.Inode.{inode_of}
 use Rattle.xn_bytes.specs.Extents.{Run}
 use Rattle.xn_meaning.specs.Manifests.{Manifest, InPool}
-use Rattle.xn_meaning.specs.Namings.{Naming}
-use Rattle.xn_meaning.specs.NameRules.{is_directory}
+use Rattle.xn_rules.specs.Namings.{Naming}
+use Rattle.xn_rules.specs.NameRules.{is_directory}
 use Rattle.xn_meaning.specs.NameSpace.{End, Sums, Breaks}
 use Rattle.xn_meaning.specs.Replies.{Summary}
-use Rattle.xn_meaning.specs.Sound.{FirstBroken, Sound, Maps}
+use Rattle.xn_rules.specs.Sound.{FirstBroken, Sound, Maps}
 
 -- a mode is a directory's
 abbrev pub is_directory_kind : Option Kind → Bool
@@ -42,7 +42,7 @@ pub record IsSummary (g : Geometry) (m : Manifest) (image : List ℕ) (summary :
   pub pending : summary.pending ≡ 0
   pub blocks : summary.free ≡ length free
 
--- What `check` answers. The cases shut each other out, and one of them is that of the image.
+-- What `check` answers. The cases shut each other out (`xn_sound` shows it).
 abbrev pub CheckEnds : Geometry → Manifest → List ℕ → End → Type 0
 CheckEnds g m image end =
     ((rule : ℕ) × (inode : ℕ) × (block : ℕ) × (end ≡ Breaks inode rule block) × FirstBroken g m image rule inode block)

@@ -8,9 +8,9 @@ use Rattle.xn_bytes.specs.Inode.{inode_of}
 use Rattle.xn_bytes.specs.Extents.{Run}
 use Rattle.xn_bytes.specs.AttributeForks.{HasOwnInode}
 use Rattle.xn_meaning.specs.Manifests.{Manifest, IsLive}
-use Rattle.xn_meaning.specs.InodeRules.{IsOfDirectory, data_fork_runs, attr_fork_runs}
-use Rattle.xn_meaning.specs.Namings.{AreLive, AreNamingsIn, Naming}
-use Rattle.xn_meaning.specs.NameRules.{BreaksRule}
+use Rattle.xn_rules.specs.InodeRules.{IsOfDirectory, data_fork_runs, attr_fork_runs}
+use Rattle.xn_rules.specs.Namings.{AreLive, AreNamingsIn, Naming}
+use Rattle.xn_rules.specs.NameRules.{BreaksRule, Stands}
 
 -- ---- rule 5
 
@@ -74,10 +74,6 @@ pub record IsFirstInode (g : Geometry) (m : Manifest) (image : List ℕ) (naming
   pub least : (lesser other : ℕ) → BreaksRule g m image namings ino lesser other → rule ≤ lesser
   pub first : (before lesser other : ℕ) → before < ino → IsLive g m before → ¬ BreaksRule g m image namings before lesser other
 
--- no inode breaks one
-abbrev pub BreaksNothing : Geometry → Manifest → List ℕ → List Naming → Type 0
-BreaksNothing g m image namings = (ino rule block : ℕ) → IsLive g m ino → ¬ BreaksRule g m image namings ino rule block
-
 -- The rule from 5 on that is named, with the inode and the block: 5 and 9 of the whole image before those of an inode.
 abbrev pub FirstBroken : Geometry → Manifest → List ℕ → ℕ → ℕ → ℕ → Type 0
 FirstBroken g m image rule inode block =
@@ -87,7 +83,8 @@ FirstBroken g m image rule inode block =
     × (((rule ≡ 9) × (inode ≡ 0) × (block ≡ 0) × ¬ MapOnce live runs)
     ⊎ (MapOnce live runs × IsFirstInode g m image namings rule inode block))))
 
--- Rules 5 and 9 and those of inodes hold of an image: the checker accepts it, where rules 1 and 2 hold too.
+-- Rules 5 and 9 hold of the image, and all others of each live inode: the checker accepts it, where rules 1 and 2 hold too. No rule is
+-- broken then (`xn_sound` shows it).
 abbrev pub Sound : Geometry → Manifest → List ℕ → List ℕ → List Naming → List Run → Type 0
 Sound g m image live namings runs =
-    Contents g m image live namings runs × HasRightRoot g m image namings × MapOnce live runs × BreaksNothing g m image namings
+    Contents g m image live namings runs × HasRightRoot g m image namings × MapOnce live runs × All (Stands g m image namings) live

@@ -12,7 +12,7 @@ use Rattle.xn_bytes.specs.DirectoryHolds.{DirHolds}
 use Rattle.xn_bytes.specs.DirectoryRules.{HasInode}
 use Rattle.xn_bytes.specs.Parents.{ParentRecord}
 use Rattle.xn_meaning.specs.Manifests.{Manifest, IsLive}
-use Rattle.xn_meaning.specs.InodeRules.{IsOfDirectory}
+use Rattle.xn_rules.specs.InodeRules.{IsOfDirectory}
 
 -- the live inodes, in rising order
 pub record AreLive (g : Geometry) (m : Manifest) (live : List ℕ) : Type 0 where

@@ -10,7 +10,7 @@ use Rattle.xn_meaning.specs.Replies.{usage_line, image_line, manifest_line, repl
 use Rattle.xn_meaning.specs.Manifests.{Manifest, HasPlaces, IsManifest, IsTextOf, IsFirstBadLine, most_bytes}
 use Rattle.xn_meaning.specs.NameSpace.{End, Says, Sums, Breaks}
 use Rattle.xn_meaning.specs.Reading.{ListEnds, ResolveEnds, ParentsEnd}
-use Rattle.xn_meaning.specs.Checking.{CheckEnds}
+use Rattle.xn_rules.specs.Checking.{CheckEnds}
 
 -- ---- the image
 
@@ -149,14 +149,3 @@ Outcome words before now ReadFault = FailsToRead words before now
 Outcome words before now SayFault = FailsToSay words before now
 Outcome words before now Memory = Tells before now []
 Outcome words before now Long = TellsAnswer words before now Long
-
--- the exit status of the program
-abbrev pub status_number : Status → ℕ
-status_number Done = 0
-status_number Usage = 1
-status_number Image = 2
-status_number BadManifest = 3
-status_number ReadFault = 4
-status_number SayFault = 6
-status_number Memory = 7
-status_number Long = 9

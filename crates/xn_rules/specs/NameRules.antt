@@ -17,8 +17,8 @@ use Rattle.xn_bytes.specs.Parents.{ParentRecord}
 use Rattle.xn_bytes.specs.ParentRecords.{IsParentsOf}
 use Rattle.xn_bytes.specs.AttributeForks.{HasOwnInode}
 use Rattle.xn_meaning.specs.Manifests.{Manifest}
-use Rattle.xn_meaning.specs.InodeRules.{IsOfDirectory, BreaksAlone}
-use Rattle.xn_meaning.specs.Namings.{IsRightEntry, IsWhole, Naming, naming, standing_in, record_for, Leads}
+use Rattle.xn_rules.specs.InodeRules.{IsOfDirectory, HasBlockCount, BreaksAlone}
+use Rattle.xn_rules.specs.Namings.{IsRightEntry, IsWhole, Naming, naming, standing_in, record_for, Leads}
 
 -- ---- rule 12, links
 
@@ -131,3 +131,30 @@ BreaksRule g m image namings ino rule block =
     ⊎ ((rule ≡ 22) × BreaksDots g m image namings ino)
     ⊎ ((rule ≡ 23) × BreaksTree g m image namings ino)
     ⊎ ((rule ≡ 27) × BreaksRecords g image namings ino)))
+
+-- ---- an inode of which all rules hold
+
+-- a whole directory with its links, dot and dotdot, and its place in the tree
+pub record StandsAsDirectory (g : Geometry) (m : Manifest) (image : List ℕ) (namings : List Naming) (dir : ℕ) : Type 0 where
+  pub entries : List Entry
+  pub dotdot : ℕ
+  pub whole : IsWhole g m image dir entries dotdot
+  pub links : HasDirectoryLinks g namings dir (number_at 4 16 (inode_of g image dir))
+  pub dot : HasDot g image dir
+  pub right_dotdot : HasRightDotdot g namings dir dotdot
+  pub place : HasPlaceInTree g namings dir
+
+-- the parent records, which are those that the entries ask for which name the inode
+pub record StandsByRecords (g : Geometry) (image : List ℕ) (namings : List Naming) (ino : ℕ) : Type 0 where
+  pub records : List ParentRecord
+  pub parents : IsParentsOf g image ino records
+  pub same : IsPermutation records (map (record_for g image) (naming ino namings))
+
+-- The core, the forks and the lists of extents are right; a directory is whole and has its place, with the count of its blocks; what is
+-- no directory has a link for each entry that names it; and the parent records are those entries.
+pub record Stands (g : Geometry) (m : Manifest) (image : List ℕ) (namings : List Naming) (ino : ℕ) : Type 0 where
+  pub own : HasOwnInode g (inode_of g image ino) ino
+  pub blocks : IsOfDirectory (inode_of g image ino) → HasBlockCount (inode_of g image ino)
+  pub directory : IsOfDirectory (inode_of g image ino) → StandsAsDirectory g m image namings ino
+  pub links : ¬ IsOfDirectory (inode_of g image ino) → number_at 4 16 (inode_of g image ino) ≡ length (naming ino namings)
+  pub records : StandsByRecords g image namings ino
