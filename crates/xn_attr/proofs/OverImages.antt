@@ -6,17 +6,18 @@ use Rattle.std.proofs.lemmas.Option.{IfSome_then}
 use Rattle.xn_bytes.specs.Superblock.{Geometry}
 use Rattle.xn_bytes.specs.Blocks.{block_of}
 use Rattle.xn_bytes.specs.Costs.{mapped_count}
-use Rattle.xn_bytes.specs.Inode.{CoreFields, HasBothForks, HasCore, attr_fork_of, inode_of}
+use Rattle.xn_bytes.specs.Inode.{CoreFields, CoreHolds, HasBothForks, HasCore, attr_fork_of, inode_of}
 use Rattle.xn_bytes.specs.DirectoryForms.{HasForkLists}
 use Rattle.xn_bytes.specs.Trees.{Held, IsTree, Tree, TreeFork, TreeHolds}
 use Rattle.xn_bytes.specs.declared.attribute.Attribute.{Attribute}
 use Rattle.xn_bytes.specs.Attributes.{attribute_hash}
 use Rattle.xn_bytes.specs.ShortAttributes.{ShortAttributesHold}
 use Rattle.xn_bytes.specs.AttributeLeaves.{AttrLeafHolds, attr_leaf_ends}
-use Rattle.xn_bytes.specs.AttributeForks.{AttrHolds, BreaksShortFork, HasAttributes, HasNoAttrFork, IsEmptyFork, IsShortFork, IsTreeFork, OrBreaksOwn, attr_runs_of, attr_tree}
+use Rattle.xn_bytes.specs.AttributeForks.{AttrHolds, BreaksShortFork, HasAttributes, HasNoAttrFork, HasOwnInode, IsEmptyFork, IsShortFork, IsTreeFork, OrBreaksOwn, attr_runs_of, attr_tree}
 use Rattle.xn_bytes.specs.AttributeRoom.{IsAttrCost, IsAttrGrowth}
 use Rattle.xn_inode.specs.declared.store.Store.{Ghosts}
 use Rattle.xn_inode.specs.Frames.{StoreStays}
+use Rattle.xn_inode.specs.Faults.{IsRule}
 use Rattle.xn_inode.specs.declared.fork_fault.ForkFault.{ForkFault}
 use Rattle.xn_inode.specs.declared.fork_fault.ForkFault.TheVariants.{Read, Memory, Broken}
 use Rattle.xn_inode.proofs.Counts.{few_of_mapped}
@@ -82,6 +83,18 @@ fork_in g ino inode = record { geometry = g; owner = ino; is_attribute = true; r
 pub fork_is : (g : Geometry) (ino : ℕ) (x inode : List ℕ) (fork : Fork) → IsForkOf ino inode fork → inode ≡ inode_of g x ino → tree_fork g fork ≡ fork_in g ino (inode_of g x ino)
 fork_is g ino x inode fork is same = rw (is.owner, is.is_attribute, is.root, is.runs, same) refl
 
+-- ---- rules that hold
+
+pub sound_of : (g : Geometry) (ino : ℕ) (inode : List ℕ) (core : CoreFields) → HasCore inode ino g.meta_uuid → HasBothForks g inode ino
+    → HasForkLists g inode → CoreHolds inode core → IsSoundInode g ino inode core
+sound_of g ino inode core ten eleven lists fields = record { own = record { core = ten; forks = eleven; lists = lists }; fields = fields }
+
+pub own_shown : (g : Geometry) (ino : ℕ) (image : Option (List ℕ)) (inode : List ℕ) → IfSome image (λ x. inode ≡ inode_of g x ino)
+    → HasCore inode ino g.meta_uuid → HasBothForks g inode ino → HasForkLists g inode
+    → IfSome image (λ x. HasOwnInode g (inode_of g x ino) ino)
+own_shown g ino image inode same ten eleven lists =
+    IfSome_then image same (λ x is. rw (← is) (record { core = ten; forks = eleven; lists = lists }))
+
 -- ---- faults
 
 pub own_breaks : (g : Geometry) (ino : ℕ) (inode : List ℕ) (rule block : ℕ) (Rest : Type 0) → OrBreaksOwn g ino inode rule block ⊥ → OrBreaksOwn g ino inode rule block Rest
@@ -96,6 +109,17 @@ pub over_inode : {S : Type 0} (store : Ghosts S) (Rest : List ℕ → ℕ → �
 over_inode store Rest ino old new Read fails = fails
 over_inode store Rest ino old new Memory fails = tt
 over_inode store Rest ino old new (Broken rule block) fails = IfSome_then (store.image old) fails (λ x breaks. own_breaks (store.shape old) ino (inode_of (store.shape old) x ino) rule block (Rest x rule block) breaks)
+
+-- rule 13
+pub over_lists : {S : Type 0} (store : Ghosts S) (Rest : List ℕ → ℕ → ℕ → Type 0) (ino : ℕ) (inode : List ℕ) (old new : S)
+    → (fault : ForkFault) → IfSome (store.image old) (λ x. inode ≡ inode_of (store.shape old) x ino)
+    → HasCore inode ino (store.shape old).meta_uuid → HasBothForks (store.shape old) inode ino
+    → IsRule 13 (HasForkLists (store.shape old) inode) fault
+    → IsFaultBy store (λ x rule block. OrBreaksOwn (store.shape old) ino (inode_of (store.shape old) x ino) rule block (Rest x rule block)) old new fault
+over_lists store Rest ino inode old new Read same core forks fails = absurd fails
+over_lists store Rest ino inode old new Memory same core forks fails = tt
+over_lists store Rest ino inode old new (Broken rule block) same core forks fails =
+    IfSome_then (store.image old) same (λ x is. rw (← is) (inr (core, inr (forks, inl fails))))
 
 -- rule 24
 pub over_short : {S : Type 0} (store : Ghosts S) (R : List ℕ → ℕ → ℕ → Type 0) (ino : ℕ) (inode : List ℕ) (core : CoreFields) (old new : S) (fault : ForkFault) → IfSome (store.image old) (λ x. inode ≡ inode_of (store.shape old) x ino)
@@ -125,25 +149,45 @@ over_tree store P Rest ino inode core fork old mid new (Broken rule block) leads
     let rest = leads x rule block rule_is (subst IsTreeFork shown form) here in
     inr (subst (λ (i : List ℕ). HasCore i ino g.meta_uuid) shown sound.own.core, inr (subst (λ (i : List ℕ). HasBothForks g i ino) shown sound.own.forks, inr (subst (λ (i : List ℕ). HasForkLists g i) shown sound.own.lists, rest))))
 
+-- the same fault over a store that was read before
+pub fault_later : {S : Type 0} (store : Ghosts S) (Breaks : List ℕ → ℕ → ℕ → Type 0) (old mid new : S) (fault : ForkFault)
+    → StoreStays store old mid → IsFaultBy store Breaks mid new fault → IsFaultBy store Breaks old new fault
+fault_later store Breaks old mid new Read stays fails = let later = stays.faults_later in omega arith
+fault_later store Breaks old mid new Memory stays fails = tt
+fault_later store Breaks old mid new (Broken rule block) stays fails =
+    subst (λ (i : Option (List ℕ)). IfSome i (λ x. Breaks x rule block)) stays.image_stays fails
+
 -- ---- what is read
 
-pub cost_alone : (g : Geometry) (ino : ℕ) (image : Option (List ℕ)) (inode : List ℕ) (before after : ℕ) → IfSome image (λ x. inode ≡ inode_of g x ino) → (IsTreeFork inode → ⊥) → after ≤ before + 1
-    → IfSome image (λ x. (cost : ℕ) × IsAttrCost g ino (inode_of g x ino) (block_of g x) cost × (after ≤ before + cost))
-cost_alone g ino image inode before after same other few = IfSome_then image same (λ x is. (1, inl (λ tree. other (subst IsTreeFork (sym is) tree), refl), few))
+-- the cost of an inode's attributes, of which one piece, the inode, is at hand
+abbrev pub CostsRest : Geometry → ℕ → Option (List ℕ) → ℕ → ℕ → Type 0
+CostsRest g ino image before after =
+    IfSome image (λ x. (cost : ℕ) × IsAttrCost g ino (inode_of g x ino) (block_of g x) cost × (after + 1 ≤ before + cost))
 
-pub cost_tree : (g : Geometry) (ino : ℕ) (image : Option (List ℕ)) (inode : List ℕ) (fork : Fork) (before mid after : ℕ) → IfSome image (λ x. inode ≡ inode_of g x ino) → IsTreeFork inode → IsForkOf ino inode fork → mid ≤ before + 1
-    → IfSome image (λ x. (helds : List (Held Attribute)) × IsTree (tree_by (tree_fork g fork) (block_of g x)) helds × (after ≤ mid + length helds))
-    → IfSome image (λ x. (cost : ℕ) × IsAttrCost g ino (inode_of g x ino) (block_of g x) cost × (after ≤ before + cost))
-cost_tree g ino image inode fork before mid after same form is first few =
+pub cost_alone : (g : Geometry) (ino : ℕ) (image : Option (List ℕ)) (inode : List ℕ) (now : ℕ)
+    → IfSome image (λ x. inode ≡ inode_of g x ino) → (IsTreeFork inode → ⊥) → CostsRest g ino image now now
+cost_alone g ino image inode now same other =
+    IfSome_then image same (λ x is. (1, inl (λ tree. other (subst IsTreeFork (sym is) tree), refl), omega arith))
+
+pub cost_tree : (g : Geometry) (ino : ℕ) (image : Option (List ℕ)) (inode : List ℕ) (fork : Fork) (before after : ℕ)
+    → IfSome image (λ x. inode ≡ inode_of g x ino) → IsTreeFork inode → IsForkOf ino inode fork
+    → IfSome image
+    (λ x. (helds : List (Held Attribute)) × IsTree (tree_by (tree_fork g fork) (block_of g x)) helds × (after ≤ before + length helds))
+    → CostsRest g ino image before after
+cost_tree g ino image inode fork before after same form is few =
     IfSome_both image same few
-    (λ x shown reads. (
+    (λ x shown reads.
+    let whole = subst (λ (f : TreeFork). IsTree (tree_by f (block_of g x)) reads.0) (fork_is g ino x inode fork is shown) reads.1 in (
       1 + length reads.0,
-      inr (subst IsTreeFork shown form, (reads.0, subst (λ (f : TreeFork). IsTree (tree_by f (block_of g x)) reads.0) (fork_is g ino x inode fork is shown) reads.1, refl)),
-      omega (arith, first, reads.2),
+      inr (subst IsTreeFork shown form, (reads.0, whole, refl)),
+      omega (arith, reads.2),
     ))
 
-pub most_inode : (g : Geometry) (ino : ℕ) (image : Option (List ℕ)) (before after : ℕ) → after ≤ before + 1 → IfSome image (λ x. after ≤ before + list_most (inode_of g x ino))
-most_inode g ino image before after few = every image _ (λ x. omega (arith, few))
+pub cost_later : (g : Geometry) (ino : ℕ) (image : Option (List ℕ)) (before mid after : ℕ) → mid ≤ before + 1
+    → CostsRest g ino image mid after
+    → IfSome image (λ x. (cost : ℕ) × IsAttrCost g ino (inode_of g x ino) (block_of g x) cost × (after ≤ before + cost))
+cost_later g ino image before mid after first rest =
+    IfSome_then image rest (λ x reads. (reads.0, reads.1, omega (arith, first, reads.2)))
 
 pub find_inode : (g : Geometry) (ino : ℕ) (image : Option (List ℕ)) (before after : ℕ) → after ≤ before + 1 → IfSome image (λ x. after ≤ before + find_most (inode_of g x ino))
 find_inode g ino image before after few = every image _ (λ x. omega (arith, few))
@@ -154,10 +198,11 @@ blocks_of_tree inode form = rw (ne_eqb _ _ form.there, form.is_extents) refl
 pub few_blocks : (fork : Fork) (before after : ℕ) → FetchesBlocks fork before after → after ≤ before + mapped_count fork.extents
 few_blocks fork before after reads = omega (arith, reads.fetches, few_of_mapped fork.extents reads.read reads.once reads.there)
 
-pub most_tree : (g : Geometry) (ino : ℕ) (image : Option (List ℕ)) (inode : List ℕ) (fork : Fork) (before mid after : ℕ) → IfSome image (λ x. inode ≡ inode_of g x ino) → IsTreeFork inode → IsForkOf ino inode fork → mid ≤ before + 1
-    → after ≤ mid + mapped_count fork.extents → IfSome image (λ x. after ≤ before + list_most (inode_of g x ino))
-most_tree g ino image inode fork before mid after same form is first few =
-    IfSome_then image same (λ x shown. rw (← shown) (omega (arith, first, few, blocks_of_tree inode form, ap mapped_count is.runs)))
+pub most_tree : (g : Geometry) (ino : ℕ) (image : Option (List ℕ)) (inode : List ℕ) (fork : Fork) (before after : ℕ)
+    → IfSome image (λ x. inode ≡ inode_of g x ino) → IsTreeFork inode → IsForkOf ino inode fork
+    → after ≤ before + mapped_count fork.extents → IfSome image (λ x. after + 1 ≤ before + list_most (inode_of g x ino))
+most_tree g ino image inode fork before after same form is few =
+    IfSome_then image same (λ x shown. rw (← shown) (omega (arith, few, blocks_of_tree inode form, ap mapped_count is.runs)))
 
 pub find_tree : (g : Geometry) (ino : ℕ) (image : Option (List ℕ)) (inode : List ℕ) (fork : Fork) (before mid after : ℕ) → IfSome image (λ x. inode ≡ inode_of g x ino) → IsTreeFork inode → IsForkOf ino inode fork → mid ≤ before + 1
     → after ≤ mid + 5 + mapped_count fork.extents → IfSome image (λ x. after ≤ before + find_most (inode_of g x ino))

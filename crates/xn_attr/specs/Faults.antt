@@ -13,12 +13,6 @@ use Rattle.xn_inode.specs.declared.fork_fault.ForkFault.{ForkFault}
 use Rattle.xn_inode.specs.declared.fork_fault.ForkFault.TheVariants.{Read, Memory, Broken}
 use Rattle.xn_inode.specs.declared.store.Store.{Ghosts}
 
--- What the bytes of an inode break by themselves. Nothing is read, and want of memory is free.
-abbrev pub IsOwnFault : Geometry → ℕ → List ℕ → ForkFault → Type 0
-IsOwnFault g ino inode Read = ⊥
-IsOwnFault g ino inode Memory = Unit {0}
-IsOwnFault g ino inode (Broken rule block) = OrBreaksOwn g ino inode rule block ⊥
-
 -- rule 24 of a fork that is no short form
 abbrev pub IsShortFault : List ℕ → ForkFault → Type 0
 IsShortFault inode = IsRule 24 ((attributes : List Attribute) × ShortAttributesHold (attr_fork_of inode) attributes)

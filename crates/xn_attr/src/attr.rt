@@ -8,7 +8,7 @@ ghost use Rattle.xn_bytes.specs.Blocks.{block_of};
 ghost use Rattle.xn_attrleaf.specs.Entries.{with_value_here};
 ghost use Rattle.xn_attr.specs.Costs.{find_most, list_most};
 ghost use Rattle.xn_bytes.specs.Superblock.{IsInode};
-ghost use Rattle.xn_bytes.specs.Inode.{CoreHolds, HasForks, attr_fork_of, inode_of};
+ghost use Rattle.xn_bytes.specs.Inode.{CoreHolds, HasBothForks, HasCore, HasForks, attr_fork_of, inode_of};
 ghost use Rattle.xn_bytes.specs.AttributeForks.{AttrHolds, HasOwnInode};
 ghost use Rattle.xn_inode.specs.Frames.{StoreStays};
 ghost use Rattle.xn_attr.specs.Inodes.{IsOfForm, IsSoundInode};
@@ -47,13 +47,38 @@ impl Attr {
         ensures most { IfSome (S.image store.old) (λ x. S.fetches store.new ≤ S.fetches store.old + list_most (inode_of (S.shape store.old) x ino)) }
     {
         let mut inode = [0; INODE_BYTES];
-        let (core, form) = read_form(alloc, store, ino, &mut inode)?;
-        match form {
+        let core = read_core(store, ino, &mut inode)?;
+        Attr::list_in(alloc, store, ino, &core, &inode)
+    }
+
+    /// The same of an inode whose bytes are at hand, with the core that they spell, of which rules 10 and 11 hold. It reads each
+    /// block of the tree, if there is one, once.
+    pub fn list_in<S: Store>(
+        alloc: Global,
+        store: &mut S,
+        ino: u64,
+        core: &Core,
+        inode: &[u8],
+    ) -> Result<Vec<Attribute>, ForkFault>
+        requires whole { S.IsWhole store.old }
+        requires place { IsInode (S.shape store.old) ino }
+        requires bytes { IfSome (S.image store.old) (λ x. inode.now ≡ inode_of (S.shape store.old) x ino) }
+        requires core { CoreHolds inode.now core.now }
+        requires rule_ten { HasCore inode.now ino (S.shape store.old).meta_uuid }
+        requires rule_eleven { HasBothForks (S.shape store.old) inode.now ino }
+        ensures holds { IfOk result (λ attributes. IfSome (S.image store.old) (λ x. AttrHolds (S.shape store.old) x ino attributes.items)) }
+        ensures inode { IfOk result (λ _. IfSome (S.image store.old) (λ x. HasOwnInode (S.shape store.old) (inode_of (S.shape store.old) x ino) ino)) }
+        ensures fault { IfErr result (IsAttrFault S.Store ino store.old store.new) }
+        ensures stays { StoreStays S.Store store.old store.new }
+        ensures reads { IfOk result (λ _. IfSome (S.image store.old) (λ x. (cost : ℕ) × IsAttrCost (S.shape store.old) ino (inode_of (S.shape store.old) x ino) (block_of (S.shape store.old) x) cost × (S.fetches store.new + 1 ≤ S.fetches store.old + cost))) }
+        ensures most { IfSome (S.image store.old) (λ x. S.fetches store.new + 1 ≤ S.fetches store.old + list_most (inode_of (S.shape store.old) x ino)) }
+    {
+        match form_of(alloc, store.geometry(), core, inode)? {
             Form::Absent => Ok(Vec::new(alloc)),
             Form::Empty => Ok(Vec::new(alloc)),
-            Form::Short => short_form::list(alloc, &core, &inode),
+            Form::Short => short_form::list(alloc, core, inode),
             Form::Tree => {
-                let fork = tree_fork(alloc, store.geometry(), ino, &core, &inode)?;
+                let fork = tree_fork(alloc, store.geometry(), ino, core, inode)?;
                 Tree::<AttrLeaf>::walk(alloc, store, &fork)
             }
         }
@@ -194,6 +219,27 @@ fn read_form<S: Store>(
     ensures stays { StoreStays S.Store store.old store.new }
     ensures fetches { S.fetches store.new ≤ S.fetches store.old + 1 }
 {
+    let core = read_core(store, ino, inode)?;
+    let form = form_of(alloc, store.geometry(), &core, inode)?;
+    Ok((core, form))
+}
+
+/// Reads an inode: rules 10 and 11.
+fn read_core<S: Store>(
+    store: &mut S,
+    ino: u64,
+    inode: &mut [u8; INODE_BYTES],
+) -> Result<Core, ForkFault>
+    requires whole { S.IsWhole store.old }
+    requires place { IsInode (S.shape store.old) ino }
+    ensures bytes { IfOk result (λ _. IfSome (S.image store.old) (λ x. inode.new ≡ inode_of (S.shape store.old) x ino)) }
+    ensures rule_ten { IfOk result (λ _. HasCore inode.new ino (S.shape store.old).meta_uuid) }
+    ensures rule_eleven { IfOk result (λ _. HasBothForks (S.shape store.old) inode.new ino) }
+    ensures core { IfOk result (λ core. CoreHolds inode.new core) }
+    ensures fault { IfErr result (IsInodeFault S.Store ino store.old store.new) }
+    ensures stays { StoreStays S.Store store.old store.new }
+    ensures fetches { S.fetches store.new ≤ S.fetches store.old + 1 }
+{
     store.inode(ino, inode)?;
-    form_of(alloc, store.geometry(), ino, inode)
+    Ok(Core::of_inode(store.geometry(), ino, inode)?)
 }

@@ -1,8 +1,10 @@
 //! The form of an inode's attributes, by its bytes.
 
 ghost use Rattle.std.specs.Prelude.{◌≡◌, IfOk, IfErr};
-ghost use Rattle.xn_attr.specs.Inodes.{IsFormBy, IsOfForm, IsSoundInode};
-ghost use Rattle.xn_attr.specs.Faults.{IsOwnFault};
+ghost use Rattle.xn_bytes.specs.DirectoryForms.{HasForkLists};
+ghost use Rattle.xn_bytes.specs.Inode.{CoreHolds, HasForks};
+ghost use Rattle.xn_inode.specs.Faults.{IsRule};
+ghost use Rattle.xn_attr.specs.Inodes.{IsFormBy, IsOfForm};
 
 use std::alloc::Global;
 use xn_inode::{Core, ForkFault, LOCAL_FORMAT, Super};
@@ -20,20 +22,21 @@ pub(crate) enum Form {
     Tree,
 }
 
-/// Core and form of an inode, by its bytes: rules 10, 11 and 13.
+/// Rule 13 of an inode of which rules 10 and 11 hold, and the form of its attributes.
 pub(crate) fn form_of(
     alloc: Global,
     geometry: &Super,
-    ino: u64,
+    core: &Core,
     inode: &[u8],
-) -> Result<(Core, Form), ForkFault>
-    ensures sound { IfOk result (λ found. IsSoundInode geometry.now ino inode.now found.0) }
-    ensures form { IfOk result (λ found. IsOfForm inode.now found.1) }
-    ensures fault { IfErr result (IsOwnFault geometry.now ino inode.now) }
+) -> Result<Form, ForkFault>
+    requires core { CoreHolds inode.now core.now }
+    requires forks { HasForks inode.now }
+    ensures lists { IfOk result (λ _. HasForkLists geometry.now inode.now) }
+    ensures form { IfOk result (IsOfForm inode.now) }
+    ensures fault { IfErr result (IsRule 13 (HasForkLists geometry.now inode.now)) }
 {
-    let core = Core::of_inode(geometry, ino, inode)?;
     core.check_fork_lists(alloc, geometry, inode)?;
-    Ok((core, form_by(&core)))
+    Ok(form_by(core))
 }
 
 fn form_by(core: &Core) -> Form

@@ -7,4 +7,4 @@ mod of_inode;
 mod order;
 mod record;
 
-pub use of_inode::parents;
+pub use of_inode::{parents, parents_in_inode};

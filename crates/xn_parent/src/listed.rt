@@ -21,7 +21,7 @@ pub(crate) fn parents_in(
         (λ parents. HasRecords attributes.now × IsOrdered (map record_in (parents_among attributes.now)) (map record_of parents.items))
         (IsRule 26 (HasRecords attributes.now)) }
 {
-    let parents = in_order(records_among(alloc, attributes)?)?;
+    let parents = in_order(records_among(alloc, attributes)?);
     if rise(&parents) {
         Ok(parents)
     } else {
