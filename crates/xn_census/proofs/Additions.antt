@@ -10,7 +10,7 @@ use Rattle.xn_bytes.specs.Entries.{Entry}
 use Rattle.xn_bytes.specs.ParentRecords.{ListsParents}
 use Rattle.xn_items.specs.declared.parent.ParentRec.{ParentRec}
 use Rattle.xn_items.specs.Viewed.{record_of}
-use Rattle.xn_meaning.specs.Sound.{AreRunsIn, AreRunsOf}
+use Rattle.xn_rules.specs.Sound.{AreRunsIn, AreRunsOf}
 use Rattle.xn_facts.specs.declared.facts.Contents.{Contents}
 use Rattle.xn_facts.specs.declared.facts.Facts.{Facts}
 use Rattle.xn_facts.specs.declared.facts.Known.{Known}
@@ -76,6 +76,7 @@ node_kept g image old new kept holds = record {
   known = rw (kept.ino, kept.known) holds.known;
   parents = rw kept.ino (same_records old.parents new.parents _ (λ (records : List ParentRec). ListsParents g image old.ino (map record_of records)) kept.parents holds.parents);
   broken = rw (kept.ino, kept.broken) holds.broken;
+  stands = rw (kept.ino, kept.broken) holds.stands;
 }
 
 -- ---- all of one inode

@@ -11,9 +11,9 @@ use Rattle.xn_bytes.specs.Superblock.{Geometry}
 use Rattle.xn_bytes.specs.Inode.{inode_of, HasCore, HasBothForks}
 use Rattle.xn_bytes.specs.Entries.{Entry}
 use Rattle.xn_meaning.specs.Manifests.{Manifest, IsLive}
-use Rattle.xn_meaning.specs.Namings as namings
-use Rattle.xn_meaning.specs.Namings.{AreLive, AreNamingsIn, AreNamingsOf, IsRightEntry, IsWhole}
-use Rattle.xn_meaning.specs.NameRules.{BreaksEntries, HasDot, is_directory}
+use Rattle.xn_rules.specs.Namings as namings
+use Rattle.xn_rules.specs.Namings.{AreLive, AreNamingsIn, AreNamingsOf, IsRightEntry, IsWhole}
+use Rattle.xn_rules.specs.NameRules.{BreaksEntries, HasDot, is_directory}
 use Rattle.xn_verdicts.proofs.OneList.{one_list}
 use Rattle.xn_dir.specs.declared.listing.Listed.{Listed}
 use Rattle.xn_dir.specs.Listings.{entry_of}
@@ -174,18 +174,9 @@ not_whole g m image whole told not_right entries dotdot is =
     let yes = told.right.1 (subst (λ (es : List Entry). All (IsRightEntry g m image) es) (sym same.0) is.right) in
     absurd (cc)
 
-pub not_broken : (g : Geometry) (m : Manifest) (image : List ℕ) (whole : Whole) → IsToldOf g m image whole → whole.is_right ≡ true → ¬ BreaksEntries g m image whole.dir
-not_broken g m image whole told all_right breaks =
-    let same = one_list g image whole.dir told.entries breaks.entries whole.dotdot breaks.dotdot told.held.holds breaks.holds in
-    breaks.wrong (subst (λ (es : List Entry). All (IsRightEntry g m image) es) same.0 (told.right.0 all_right))
-
--- ---- of one that holds no entries
-
+-- a whole directory holds its entries
 pub whole_is_held : (g : Geometry) (m : Manifest) (image : List ℕ) (dir : ℕ) (entries : List Entry) (dotdot : ℕ) → IsWhole g m image dir entries dotdot → IsHeld g image dir entries dotdot
 whole_is_held g m image dir entries dotdot is = record { directory = is.directory; inode = is.inode; holds = is.holds; names = is.names }
-
-pub broken_is_held : (g : Geometry) (m : Manifest) (image : List ℕ) (dir : ℕ) (breaks : BreaksEntries g m image dir) → IsHeld g image dir breaks.entries breaks.dotdot
-broken_is_held g m image dir breaks = record { directory = breaks.directory; inode = breaks.inode; holds = breaks.holds; names = breaks.names }
 
 -- ---- all of them
 

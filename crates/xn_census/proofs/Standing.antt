@@ -1,6 +1,6 @@
 -- The entries that stand in one directory among those of all, and the generations of directories.
 use Rattle.std.proofs.Common.{◌≡◌, inl, inr, ℕ, zero, suc, ◌+◌, ◌<◌, List, [], ◌∷◌, ◌++◌, length, map, true, false, refl, sym, ap, subst, ◌∙◌, arith, eq-eqb}
-use Rattle.std.specs.Prelude.{◌≢◌, ◌↔◌, ◌==◌, All, Any, Bool, Contains, IsTrue, cond, count_by, filter}
+use Rattle.std.specs.Prelude.{◌≢◌, ◌↔◌, ◌==◌, All, Bool, Contains, IsTrue, cond, count_by, filter}
 use Rattle.std.specs.List.{AllAdjacentBelow}
 use Rattle.std.proofs.lemmas.List.{append-nil}
 use Rattle.std.proofs.lemmas.List.Elements.{All-append, All-contains, All-cons, All-head, All-nil, All-tail, All-weaker, filter-append}
@@ -11,10 +11,11 @@ use Rattle.xn_bytes.specs.Superblock.{Geometry}
 use Rattle.xn_bytes.specs.Inode.{inode_of}
 use Rattle.xn_bytes.specs.Entries.{Entry}
 use Rattle.xn_meaning.specs.Manifests.{Manifest, IsLive}
-use Rattle.xn_meaning.specs.Namings.{AreLive, AreNamingsIn, AreNamingsOf, IsWhole, Naming as Means, naming_of as means_of, standing_in}
-use Rattle.xn_meaning.specs.NameRules.{BreaksEntries, is_directory, says_directory}
+use Rattle.xn_rules.specs.Namings.{AreLive, AreNamingsIn, AreNamingsOf, IsWhole, Naming as Means, naming_of as means_of, standing_in}
+use Rattle.xn_rules.specs.NameRules.{is_directory, says_directory}
 use Rattle.xn_verdicts.proofs.OneList.{one_list}
 use Rattle.xn_dir.specs.declared.listing.Listed.{Listed}
+use Rattle.xn_facts.specs.Facts.{IsHeld}
 use Rattle.xn_facts.specs.declared.facts.Node.{Node}
 use Rattle.xn_names.specs.declared.entry.Naming.{Naming}
 use Rattle.xn_names.specs.Names.{naming_of}
@@ -26,7 +27,7 @@ use Rattle.xn_census.specs.declared.sorted_out.Whole.{Whole}
 use Rattle.xn_census.specs.Census.{AreHeldIn, CensusHolds, IsHeldBy}
 use Rattle.xn_census.specs.SortedOut.{AreSortedOut, AreTaken, SortsOut, named_in}
 use Rattle.xn_census.proofs.Rises.{above_first, itself, rises_behind}
-use Rattle.xn_census.proofs.Meanings.{IsToldOf, are_namings, broken_is_held, is_whole, no_entries, whole_is_held}
+use Rattle.xn_census.proofs.Meanings.{IsToldOf, are_namings, is_whole, no_entries}
 
 -- ---- filters that keep all or nothing
 
@@ -184,12 +185,9 @@ wholes_live g m image live census out are_live holds sorts =
     All-weaker (λ (whole : Whole). Contains live whole.dir) (λ (whole : Whole). IsLive g m whole.dir) (λ whole has. (are_live.each whole.dir).0 has) out.wholes.items
     (wholes_among g image census.nodes.items live census.held.items out.wholes.items out.namings.items out.steps.items holds.held sorts)
 
--- a live inode that is none of them is no whole directory, and its entries break nothing
+-- a live inode that is none of them holds no entries
 pub others_are : (g : Geometry) (m : Manifest) (image : List ℕ) (live : List ℕ) (census : Census) (out : SortedOut) (dir : ℕ) → AreLive g m live → CensusHolds g image live census → SortsOut census.nodes.items census.held.items out
-    → IsLive g m dir → All (λ (whole : Whole). whole.dir ≢ dir) out.wholes.items → ((entries : List Entry) (dotdot : ℕ) → ¬ IsWhole g m image dir entries dotdot) × ¬ BreaksEntries g m image dir
+    → IsLive g m dir → All (λ (whole : Whole). whole.dir ≢ dir) out.wholes.items → (entries : List Entry) (dotdot : ℕ) → ¬ IsHeld g image dir entries dotdot
 others_are g m image live census out dir are_live holds sorts is_live differ =
-    let absent : Any (λ (whole : Whole). whole.dir ≡ dir) out.wholes.items → ⊥ = λ found. differ found.0 found.1 found.2 (ap (λ (whole : Whole). whole.dir) found.3 ∙ found.4) in
-    let none = no_entries g m image live census out dir are_live holds sorts is_live absent in (
-      λ entries dotdot whole. none entries dotdot (whole_is_held g m image dir entries dotdot whole),
-      λ breaks. none breaks.entries breaks.dotdot (broken_is_held g m image dir breaks),
-    )
+    no_entries g m image live census out dir are_live holds sorts is_live
+    (λ found. differ found.0 found.1 found.2 (ap (λ (whole : Whole). whole.dir) found.3 ∙ found.4))

@@ -4,7 +4,7 @@ use Rattle.xn_bytes.specs.Numbers.{number_at}
 use Rattle.xn_bytes.specs.Superblock.{Geometry}
 use Rattle.xn_bytes.specs.Inode.{inode_of}
 use Rattle.xn_bytes.specs.Entries.{Entry}
-use Rattle.xn_meaning.specs.Sound.{AreRunsIn}
+use Rattle.xn_rules.specs.Sound.{AreRunsIn}
 use Rattle.xn_facts.specs.Facts.{AreContents, IsHeld, NodeHolds, mapped_of}
 use Rattle.xn_census.specs.declared.census.Held.{Held}
 use Rattle.xn_census.specs.declared.census.Census.{Census}

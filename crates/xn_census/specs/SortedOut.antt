@@ -2,7 +2,7 @@
 use Rattle.std.specs.Prelude.{◌≡◌, ◌⊎◌, ◌↔◌, false, true, IsTrue, List, [], ◌∷◌, ◌++◌, map, count_by, All, Any, Option, Some, None}
 use Rattle.xn_bytes.specs.declared.kind.Kind.{Kind}
 use Rattle.xn_bytes.specs.Entries.{Entry}
-use Rattle.xn_meaning.specs.NameRules.{is_directory}
+use Rattle.xn_rules.specs.NameRules.{is_directory}
 use Rattle.xn_dir.specs.Listings.{entry_of}
 use Rattle.xn_dir.specs.declared.listing.Listed.{Listed}
 use Rattle.xn_facts.specs.declared.facts.Known.{Known}

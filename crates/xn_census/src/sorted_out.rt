@@ -2,7 +2,7 @@
 
 ghost use Rattle.std.specs.Prelude.{◌≡◌, ◌<◌, if◌then◌else◌, List, [], ◌∷◌, ◌++◌, IfOk, OnOk, count_by, length, map};
 ghost use Rattle.std.specs.List.{AllAdjacentBelow};
-ghost use Rattle.xn_meaning.specs.NameRules.{is_directory};
+ghost use Rattle.xn_rules.specs.NameRules.{is_directory};
 ghost use Rattle.xn_census.specs.SortedOut.{IsWholeOf, SortsOut, named_in, step_in};
 
 use crate::census::Held;

@@ -3,8 +3,8 @@ use Rattle.std.proofs.Common.{◌≡◌, ℕ, List, length, map, Option, Some, N
 use Rattle.std.specs.Prelude.{◌↔◌, Any, Contains, IfSome}
 use Rattle.xn_bytes.specs.Superblock.{Geometry}
 use Rattle.xn_meaning.specs.Manifests.{Manifest, InPool}
-use Rattle.xn_meaning.specs.Checking.{AreFreeBlocks}
-use Rattle.xn_meaning.specs.Sound.{Maps}
+use Rattle.xn_rules.specs.Checking.{AreFreeBlocks}
+use Rattle.xn_rules.specs.Sound.{Maps}
 use Rattle.xn_inode.specs.Stores.{AreFree}
 use Rattle.xn_facts.specs.Facts.{mapped_of}
 use Rattle.xn_check.specs.Checked.{Checks, FreesRest}

@@ -9,7 +9,7 @@ use Rattle.xn_bytes.specs.Kinds.{kind_of_mode}
 use Rattle.xn_bytes.specs.Numbers.{number_at}
 use Rattle.xn_bytes.specs.Inode.{inode_of}
 use Rattle.xn_bytes.specs.Superblock.{Geometry}
-use Rattle.xn_meaning.specs.Checking.{directories_among, is_directory_kind}
+use Rattle.xn_rules.specs.Checking.{directories_among, is_directory_kind}
 use Rattle.xn_facts.specs.declared.facts.Node.{Node}
 use Rattle.xn_facts.specs.Facts.{NodeHolds}
 

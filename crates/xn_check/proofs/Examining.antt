@@ -5,9 +5,9 @@ use Rattle.std.proofs.lemmas.List.Elements.{Contains-get_or}
 use Rattle.std.proofs.lemmas.List.Sorted.{IsPermutation-refl}
 use Rattle.xn_bytes.specs.Superblock.{Geometry, IsInode}
 use Rattle.xn_meaning.specs.Manifests.{Manifest, HasPlaces}
-use Rattle.xn_meaning.specs.Namings.{AreLive, Naming as Means}
-use Rattle.xn_meaning.specs.Checking.{directories_among}
-use Rattle.xn_meaning.specs.Sound.{Contents}
+use Rattle.xn_rules.specs.Namings.{AreLive, Naming as Means}
+use Rattle.xn_rules.specs.Checking.{directories_among}
+use Rattle.xn_rules.specs.Sound.{Contents}
 use Rattle.xn_facts.specs.Facts.{mapped_of}
 use Rattle.xn_facts.specs.declared.facts.Node.{Node}
 use Rattle.xn_facts.specs.declared.facts.Run.{Run}
@@ -71,7 +71,7 @@ module _ (g : Geometry) (m : Manifest) (live : List ℕ) (census : Census) (out 
   examined image inodes directories entries holds many some judged = record {
     live = live;
     namings = judged.0;
-    sound = (contents image holds judged.0 judged.1, judged.2.0.root, judged.2.0.once, judged.2.0.nothing);
+    sound = (contents image holds judged.0 judged.1, judged.2.0.root, judged.2.0.once, judged.2.0.stands);
     inodes = many;
     directories = some;
     entries = judged.2.1;

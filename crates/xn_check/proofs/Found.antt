@@ -3,7 +3,7 @@ use Rattle.std.proofs.Common.{◌≡◌, ℕ, ◌<◌, true, List, length}
 use Rattle.std.specs.List.{AllAdjacentBelow}
 use Rattle.xn_bytes.specs.Superblock.{Geometry}
 use Rattle.xn_meaning.specs.Manifests.{Manifest, IsLive}
-use Rattle.xn_meaning.specs.Namings.{AreLive}
+use Rattle.xn_rules.specs.Namings.{AreLive}
 use Rattle.xn_census.specs.declared.census.Held.{Held}
 use Rattle.xn_census.specs.declared.census.Census.{Census}
 use Rattle.xn_census.specs.declared.sorted_out.Whole.{Whole}

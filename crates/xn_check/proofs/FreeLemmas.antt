@@ -8,8 +8,8 @@ use Rattle.xn_bytes.specs.Blocks.{IsHome}
 use Rattle.xn_bytes.specs.Extents.{Run}
 use Rattle.xn_inode.specs.Stores.{AreFree}
 use Rattle.xn_meaning.specs.Manifests.{Manifest, ArePoolRuns, HasPlaces, InPool}
-use Rattle.xn_meaning.specs.Checking.{AreFreeBlocks}
-use Rattle.xn_meaning.specs.Sound.{Maps}
+use Rattle.xn_rules.specs.Checking.{AreFreeBlocks}
+use Rattle.xn_rules.specs.Sound.{Maps}
 
 -- where all blocks of the pool were free, and those that runs map are made used
 pub free_blocks : (m : Manifest) (runs : List Run) (blocks old free : List ℕ) → AreFree blocks free → ((block : ℕ) → Contains blocks block ↔ InPool m block) → old ≡ blocks

@@ -8,9 +8,9 @@ use Rattle.xn_bytes.specs.Numbers.{number_at}
 use Rattle.xn_bytes.specs.Superblock.{Geometry}
 use Rattle.xn_bytes.specs.Inode.{inode_of}
 use Rattle.xn_meaning.specs.Manifests.{Manifest}
-use Rattle.xn_meaning.specs.Namings.{AreLive, Naming as Means, Leads}
-use Rattle.xn_meaning.specs.NameRules.{says_directory}
-use Rattle.xn_meaning.specs.Sound.{HasRightRoot}
+use Rattle.xn_rules.specs.Namings.{AreLive, Naming as Means, Leads}
+use Rattle.xn_rules.specs.NameRules.{says_directory}
+use Rattle.xn_rules.specs.Sound.{HasRightRoot}
 use Rattle.xn_facts.specs.Facts.{NodeHolds}
 use Rattle.xn_facts.specs.declared.facts.Node.{Node}
 use Rattle.xn_census.specs.declared.sorted_out.Whole.{Whole}

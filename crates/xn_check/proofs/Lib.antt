@@ -4,6 +4,8 @@ pub mod Found
 pub mod WholesFound
 pub mod RuleLemmas
 pub mod RecordLemmas
+pub mod BetweenLemmas
+pub mod StandLemmas
 pub mod FirstLemmas
 pub mod Examining
 pub mod RootLemmas

@@ -4,7 +4,7 @@ use Rattle.std.specs.Prelude.{All, Any, Contains, filter, ◌==◌}
 use Rattle.std.proofs.lemmas.Bool.{cases_lt, eqb-false, ne_eqb, not-true, not_from_false}
 use Rattle.std.proofs.lemmas.List.{get_or_default}
 use Rattle.std.proofs.lemmas.List.Elements.{All-contains, Contains-get_or}
-use Rattle.xn_meaning.specs.Sound.{Maps}
+use Rattle.xn_rules.specs.Sound.{Maps}
 use Rattle.xn_facts.specs.declared.facts.Run.{Run}
 use Rattle.xn_facts.specs.Facts.{mapped_of}
 use Rattle.xn_replay.specs.Overlay.{ViewState}

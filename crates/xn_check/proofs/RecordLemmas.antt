@@ -9,12 +9,13 @@ use Rattle.xn_bytes.specs.Superblock.{Geometry}
 use Rattle.xn_bytes.specs.Inode.{inode_of}
 use Rattle.xn_bytes.specs.Parents.{ParentRecord}
 use Rattle.xn_bytes.specs.ParentRecords.{ListsParents}
-use Rattle.xn_meaning.specs.Namings as namings
-use Rattle.xn_meaning.specs.NameRules.{BreaksRecords}
+use Rattle.xn_rules.specs.Namings as namings
+use Rattle.xn_rules.specs.NameRules.{BreaksRecords}
 use Rattle.xn_verdicts.proofs.OneParents.{one_parents}
 use Rattle.xn_names.specs.declared.entry.Naming.{Naming}
 use Rattle.xn_names.specs.Names.{HasOneGeneration, asked_by, naming_of}
 use Rattle.xn_names.proofs.AskedRecords.{one_generation_from}
+use Rattle.xn_check.specs.Known.{HoldsRecords}
 use Rattle.xn_check.proofs.RuleLemmas.{told_by}
 
 -- ---- generations
@@ -51,14 +52,13 @@ asked_for g image ino run all viewed generations = asked_are g image run generat
 
 pub records_told : (g : Geometry) (image : List ℕ) (ino : ℕ) (all : List namings.Naming) (sorted asked : List ParentRecord) (answer : Bool) → ListsParents g image ino sorted
     → asked ≡ map (namings.record_for g image) (namings.naming ino all) → (IsTrue answer ↔ IsPermutation sorted asked)
-    → MatchBool answer (BreaksRecords g image all ino → ⊥) (BreaksRecords g image all ino)
+    → MatchBool answer (HoldsRecords g image all ino) (BreaksRecords g image all ino)
 records_told g image ino all sorted asked answer lists are tells =
     let wanted : List ParentRecord = map (namings.record_for g image) (namings.naming ino all) in
-    told_by answer (IsPermutation sorted asked) (BreaksRecords g image all ino) tells
-    (λ right breaks.
-    let one = one_parents g image ino lists.records breaks.records lists.parents breaks.parents in
-    breaks.wrong (subst (λ (records : List ParentRecord). IsPermutation records wanted) one
-    (IsPermutation-trans lists.records sorted wanted lists.ordered.same (subst (λ (records : List ParentRecord). IsPermutation sorted records) are right))))
+    told_by answer (IsPermutation sorted asked) (HoldsRecords g image all ino) (BreaksRecords g image all ino) tells
+    (λ right records own parents.
+    subst (λ (records : List ParentRecord). IsPermutation records wanted) (one_parents g image ino lists.records records lists.parents parents)
+    (IsPermutation-trans lists.records sorted wanted lists.ordered.same (subst (λ (records : List ParentRecord). IsPermutation sorted records) are right)))
     (λ wrong. record {
       own = lists.inode;
       records = lists.records;

@@ -6,9 +6,9 @@ use Rattle.std.proofs.lemmas.List.Elements.{All-contains}
 use Rattle.xn_bytes.specs.Superblock.{Geometry}
 use Rattle.xn_bytes.specs.Inode.{inode_of}
 use Rattle.xn_meaning.specs.Manifests.{Manifest, IsLive}
-use Rattle.xn_meaning.specs.InodeRules.{IsOfDirectory}
-use Rattle.xn_meaning.specs.Namings.{AreLive, Naming}
-use Rattle.xn_meaning.specs.Sound.{HasRightRoot, most_entries}
+use Rattle.xn_rules.specs.InodeRules.{IsOfDirectory}
+use Rattle.xn_rules.specs.Namings.{AreLive, Naming}
+use Rattle.xn_rules.specs.Sound.{HasRightRoot, most_entries}
 use Rattle.xn_facts.specs.Facts.{NodeHolds}
 use Rattle.xn_facts.specs.declared.facts.Node.{Node}
 

@@ -6,7 +6,7 @@ use Rattle.std.specs.List.Sorted.{IsNonDecreasing, IsPermutation}
 use Rattle.std.proofs.lemmas.List.{get_or-map, length-map}
 use Rattle.std.proofs.lemmas.List.Elements.{All-map, All-contains, Contains-get_or}
 use Rattle.std.proofs.lemmas.List.Sorted.{IsPermutation-sym, All-permutation, IsNonDecreasingBy-from_all_adjacent}
-use Rattle.xn_meaning.specs.Sound.{MapOnce, Maps, AreApart}
+use Rattle.xn_rules.specs.Sound.{MapOnce, Maps, AreApart}
 use Rattle.xn_facts.specs.Facts.{mapped_of}
 use Rattle.xn_facts.specs.declared.facts.Run.{Run}
 use Rattle.xn_apart.specs.Spans.{Holds, AreApart as LieApart}

@@ -8,10 +8,12 @@ use Rattle.std.proofs.lemmas.List.Elements.{All-contains}
 use Rattle.std.proofs.lemmas.List.Sorted.{IsNonDecreasingBy-from_all_adjacent}
 use Rattle.xn_bytes.specs.Superblock.{Geometry}
 use Rattle.xn_meaning.specs.Manifests.{Manifest, IsLive}
-use Rattle.xn_meaning.specs.NameRules.{BreaksEntries}
+use Rattle.xn_rules.specs.Namings.{Naming}
+use Rattle.xn_rules.specs.NameRules.{BreaksEntries}
 use Rattle.xn_census.specs.declared.sorted_out.Whole.{Whole}
+use Rattle.xn_census.proofs.Meanings.{whole_is_held}
 use Rattle.xn_check.specs.declared.names.Names.{Names}
-use Rattle.xn_check.specs.Known.{IsNoWhole, IsRightWhole, IsWholeAmong, NamesHold, WholeHolds, WholeIs, meant}
+use Rattle.xn_check.specs.Known.{IsNoWhole, IsNotHeld, IsRightWhole, IsWholeAmong, NamesHold, WholeHolds, WholeIs, meant}
 
 -- ---- numbers that rise
 
@@ -62,7 +64,11 @@ found_wrong g m image names dir found whole is wrong known =
     let of = subst (λ (o : Option Whole). WholeIs g m image (meant names) dir o) is known in
     subst (λ (d : ℕ). BreaksEntries g m image d × IsNoWhole g m image d) of.0 (of.1.wrong wrong)
 
+pub held_none : (g : Geometry) (m : Manifest) (image : List ℕ) (namings : List Naming) (dir : ℕ) (found : Option Whole) → found ≡ None
+    → WholeIs g m image namings dir found → IsNotHeld g image dir
+held_none g m image namings dir found is known = subst (λ (o : Option Whole). WholeIs g m image namings dir o) is known
+
 pub found_none : (g : Geometry) (m : Manifest) (image : List ℕ) (names : Names) (dir : ℕ) (found : Option Whole) → found ≡ None
     → WholeIs g m image (meant names) dir found → IsNoWhole g m image dir
-found_none g m image names dir found is known =
-    let of = subst (λ (o : Option Whole). WholeIs g m image (meant names) dir o) is known in of.0
+found_none g m image names dir found is known entries dotdot whole =
+    held_none g m image (meant names) dir found is known entries dotdot (whole_is_held g m image dir entries dotdot whole)

@@ -4,9 +4,9 @@ use Rattle.xn_bytes.specs.Superblock.{Geometry}
 use Rattle.xn_bytes.specs.Extents.{Run}
 use Rattle.xn_meaning.specs.Manifests.{Manifest}
 use Rattle.xn_meaning.specs.NameSpace.{End, Sums, Breaks}
-use Rattle.xn_meaning.specs.Namings.{Naming}
-use Rattle.xn_meaning.specs.Checking.{AreFreeBlocks, CheckEnds}
-use Rattle.xn_meaning.specs.Sound.{Sound}
+use Rattle.xn_rules.specs.Namings.{Naming}
+use Rattle.xn_rules.specs.Checking.{AreFreeBlocks, CheckEnds}
+use Rattle.xn_rules.specs.Sound.{Sound}
 use Rattle.xn_inode.specs.declared.store.StoreFault.{StoreFault}
 use Rattle.xn_inode.specs.declared.store.StoreFault.TheVariants as store
 use Rattle.xn_text.specs.declared.told.Summary.{Summary}

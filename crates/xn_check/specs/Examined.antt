@@ -2,9 +2,9 @@
 use Rattle.std.specs.Prelude.{◌≡◌, ℕ, List, length, map}
 use Rattle.xn_bytes.specs.Superblock.{Geometry}
 use Rattle.xn_meaning.specs.Manifests.{Manifest}
-use Rattle.xn_meaning.specs.Namings.{Naming}
-use Rattle.xn_meaning.specs.Checking.{directories_among}
-use Rattle.xn_meaning.specs.Sound.{FirstBroken, Sound}
+use Rattle.xn_rules.specs.Namings.{Naming}
+use Rattle.xn_rules.specs.Checking.{directories_among}
+use Rattle.xn_rules.specs.Sound.{FirstBroken, Sound}
 use Rattle.xn_facts.specs.Facts.{mapped_of}
 use Rattle.xn_check.specs.declared.examine.Examined.{Examined}
 use Rattle.xn_check.specs.declared.fault.CheckFault.{CheckFault}

@@ -7,16 +7,16 @@ use Rattle.xn_bytes.specs.Superblock.{Geometry}
 use Rattle.xn_bytes.specs.Inode.{inode_of}
 use Rattle.xn_bytes.specs.Extents.{Run}
 use Rattle.xn_meaning.specs.Manifests.{Manifest, IsLive}
-use Rattle.xn_meaning.specs.Namings.{AreLive, Leads, Naming as Means}
-use Rattle.xn_meaning.specs.NameRules.{BreaksEntries}
-use Rattle.xn_meaning.specs.Sound.{HasRightRoot, MapOnce, IsFirstInode, BreaksNothing}
+use Rattle.xn_rules.specs.Namings.{AreLive, Leads, Naming as Means}
+use Rattle.xn_rules.specs.NameRules.{Stands}
+use Rattle.xn_rules.specs.Sound.{HasRightRoot, MapOnce, IsFirstInode}
 use Rattle.xn_facts.specs.Facts.{NodeHolds}
 use Rattle.xn_facts.specs.declared.facts.Node.{Node}
 use Rattle.xn_names.specs.Names.{naming_of}
 use Rattle.xn_names.specs.declared.entry.Naming.{Naming}
 use Rattle.xn_reach.specs.declared.step.Step.{Step}
 use Rattle.xn_census.specs.declared.sorted_out.SortedOut.{SortedOut}
-use Rattle.xn_check.specs.Known.{IsNoWhole, WholeHolds, meant}
+use Rattle.xn_check.specs.Known.{IsNotHeld, WholeHolds, meant}
 use Rattle.xn_check.specs.declared.names.Names.{Names}
 use Rattle.xn_check.specs.declared.fault.CheckFault.{CheckFault}
 use Rattle.xn_check.specs.declared.fault.CheckFault.TheVariants as faults
@@ -38,7 +38,7 @@ pub record IsSortedOut (out : SortedOut) : Type 0 where
 -- the directories that hold entries with names, and the entries of those whose entries are right, over an image
 pub record OutHolds (g : Geometry) (m : Manifest) (image : List ℕ) (out : SortedOut) : Type 0 where
   pub wholes : All (WholeHolds g m image (meant_by out)) out.wholes.items
-  pub others : (dir : ℕ) → IsLive g m dir → All (λ whole. whole.dir ≢ dir) out.wholes.items → IsNoWhole g m image dir × ¬ BreaksEntries g m image dir
+  pub others : (dir : ℕ) → IsLive g m dir → All (λ whole. whole.dir ≢ dir) out.wholes.items → IsNotHeld g image dir
   pub generations : All (λ n. n.generation ≡ number_at 4 92 (inode_of g image n.dir)) out.namings.items
 
 -- what is known of an image: its live inodes, each by itself, and its entries
@@ -59,7 +59,7 @@ IsFirstRule g m image live namings runs rule inode block =
 pub record HoldsAll (g : Geometry) (m : Manifest) (image : List ℕ) (live : List ℕ) (namings : List Means) (runs : List Run) : Type 0 where
   pub root : HasRightRoot g m image namings
   pub once : MapOnce live runs
-  pub nothing : BreaksNothing g m image namings
+  pub stands : All (Stands g m image namings) live
 
 -- what was judged: how many entries there are where all rules hold, else the first that is broken
 abbrev pub IsJudged : Geometry → Manifest → List ℕ → List ℕ → List Means → List Run → Result ℕ CheckFault → Type 0

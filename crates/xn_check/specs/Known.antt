@@ -1,14 +1,21 @@
 -- What is known of an image once its inodes were looked at one by one and the entries of its directories were taken out.
-use Rattle.std.specs.Prelude.{◌≡◌, ◌≢◌, ◌⊎◌, ◌↔◌, ℕ, ◌<◌, true, false, IsTrue, List, [], length, map, count_by, All, Contains, Option, MatchOption}
+use Rattle.std.specs.Prelude.{◌≡◌, ◌≢◌, ◌⊎◌, ◌↔◌, ℕ, ◌<◌, true, false, IsTrue, Option, MatchOption}
+use Rattle.std.specs.Prelude.{List, [], length, map, count_by, All, Contains, IsPermutation}
 use Rattle.std.specs.List.{AllAdjacentBelow}
 use Rattle.std.specs.List.Sorted.{IsNonDecreasingBy}
 use Rattle.xn_bytes.specs.Numbers.{number_at}
 use Rattle.xn_bytes.specs.Superblock.{Geometry}
-use Rattle.xn_bytes.specs.Inode.{inode_of}
+use Rattle.xn_bytes.specs.Inode.{inode_of, HasCore, HasBothForks}
 use Rattle.xn_bytes.specs.Entries.{Entry}
+use Rattle.xn_bytes.specs.Parents.{ParentRecord}
+use Rattle.xn_bytes.specs.AttributeForks.{HasOwnInode}
+use Rattle.xn_bytes.specs.ParentRecords.{IsParentsOf}
 use Rattle.xn_meaning.specs.Manifests.{Manifest, IsLive}
-use Rattle.xn_meaning.specs.Namings.{IsWhole, Naming as Means, Leads, standing_in}
-use Rattle.xn_meaning.specs.NameRules.{BreaksLinks, BreaksDirectoryLinks, BreaksEntries, BreaksDots, BreaksTree, BreaksRecords, HasDot, says_directory}
+use Rattle.xn_rules.specs.InodeRules.{IsOfDirectory}
+use Rattle.xn_rules.specs.Namings.{IsRightEntry, IsWhole, Naming as Means, Leads, naming, standing_in, record_for}
+use Rattle.xn_rules.specs.NameRules.{BreaksLinks, BreaksDirectoryLinks, BreaksEntries, BreaksDots, BreaksTree, BreaksRecords}
+use Rattle.xn_rules.specs.NameRules.{HasDirectoryLinks, HasDot, HasPlaceInTree, HasRightDotdot, says_directory}
+use Rattle.xn_facts.specs.Facts.{IsHeld}
 use Rattle.xn_census.specs.declared.sorted_out.Whole.{Whole}
 use Rattle.xn_names.specs.Names.{naming_of, IsInOrder}
 use Rattle.xn_check.specs.declared.names.Names.{Names}
@@ -25,6 +32,11 @@ pub record IsRightWhole (g : Geometry) (m : Manifest) (image : List ℕ) (naming
 abbrev pub IsNoWhole : Geometry → Manifest → List ℕ → ℕ → Type 0
 IsNoWhole g m image dir = (entries : List Entry) (dotdot : ℕ) → ¬ IsWhole g m image dir entries dotdot
 
+-- nor one that speaks of entries with names
+abbrev pub IsNotHeld : Geometry → List ℕ → ℕ → Type 0
+IsNotHeld g image dir = (entries : List Entry) (dotdot : ℕ) → ¬ IsHeld g image dir entries dotdot
+
+-- a directory that holds entries with names: it is whole where they are right, else it breaks rule 21
 pub record WholeHolds (g : Geometry) (m : Manifest) (image : List ℕ) (namings : List Means) (whole : Whole) : Type 0 where
   pub right : whole.is_right ≡ true → IsRightWhole g m image namings whole
   pub wrong : whole.is_right ≡ false → BreaksEntries g m image whole.dir × IsNoWhole g m image whole.dir
@@ -36,7 +48,7 @@ IsWholeAmong wholes dir found = MatchOption found (All (λ whole. whole.dir ≢ 
 -- what is so said of it
 abbrev pub WholeIs : Geometry → Manifest → List ℕ → List Means → ℕ → Option Whole → Type 0
 WholeIs g m image namings dir found =
-    MatchOption found (IsNoWhole g m image dir × ¬ BreaksEntries g m image dir) (λ whole. (whole.dir ≡ dir) × WholeHolds g m image namings whole)
+    MatchOption found (IsNotHeld g image dir) (λ whole. (whole.dir ≡ dir) × WholeHolds g m image namings whole)
 
 -- the entries of all whole directories, as the rules see them
 abbrev pub meant : Names → List Means
@@ -52,12 +64,49 @@ pub record AreSearched (names : Names) : Type 0 where
 -- over an image.
 pub record NamesHold (g : Geometry) (m : Manifest) (image : List ℕ) (names : Names) : Type 0 where
   pub wholes : All (WholeHolds g m image (meant names)) names.wholes.items
-  pub others : (dir : ℕ) → IsLive g m dir → All (λ whole. whole.dir ≢ dir) names.wholes.items → IsNoWhole g m image dir × ¬ BreaksEntries g m image dir
+  pub others : (dir : ℕ) → IsLive g m dir → All (λ whole. whole.dir ≢ dir) names.wholes.items → IsNotHeld g image dir
   pub generations : All (λ n. n.generation ≡ number_at 4 92 (inode_of g image n.dir)) names.namings.items
   pub leads : (number : ℕ) → Contains names.reached number ↔ ((path : List ℕ) × Leads (meant names) g.root path number)
 
--- ---- the rules between inodes, by their numbers
+-- ---- what each of the rules between inodes says, where it is looked at
 
+-- rule 12, of what is no directory and of a whole directory
+pub record HoldsTwelve (g : Geometry) (m : Manifest) (image : List ℕ) (namings : List Means) (ino : ℕ) : Type 0 where
+  pub other : HasCore (inode_of g image ino) ino g.meta_uuid → HasBothForks g (inode_of g image ino) ino
+      → ¬ IsOfDirectory (inode_of g image ino) → number_at 4 16 (inode_of g image ino) ≡ length (naming ino namings)
+  pub directory : (entries : List Entry) (dotdot : ℕ) → IsWhole g m image ino entries dotdot
+      → HasDirectoryLinks g namings ino (number_at 4 16 (inode_of g image ino))
+
+-- rule 21, of a directory that holds entries with names
+abbrev pub HoldsEntries : Geometry → Manifest → List ℕ → ℕ → Type 0
+HoldsEntries g m image dir = (entries : List Entry) (dotdot : ℕ) → IsHeld g image dir entries dotdot → All (IsRightEntry g m image) entries
+
+-- rule 22, of a whole directory
+abbrev pub HoldsDots : Geometry → Manifest → List ℕ → List Means → ℕ → Type 0
+HoldsDots g m image namings dir =
+    (entries : List Entry) (dotdot : ℕ) → IsWhole g m image dir entries dotdot → HasDot g image dir × HasRightDotdot g namings dir dotdot
+
+-- rule 23, of a whole directory
+abbrev pub HoldsTree : Geometry → Manifest → List ℕ → List Means → ℕ → Type 0
+HoldsTree g m image namings dir = (entries : List Entry) (dotdot : ℕ) → IsWhole g m image dir entries dotdot → HasPlaceInTree g namings dir
+
+-- rule 27, of parent records that are well formed
+abbrev pub HoldsRecords : Geometry → List ℕ → List Means → ℕ → Type 0
+HoldsRecords g image namings ino =
+    (records : List ParentRecord) → HasOwnInode g (inode_of g image ino) ino → IsParentsOf g image ino records
+    → IsPermutation records (map (record_for g image) (naming ino namings))
+
+-- all of them
+pub record HoldsBetween (g : Geometry) (m : Manifest) (image : List ℕ) (namings : List Means) (ino : ℕ) : Type 0 where
+  pub links : HoldsTwelve g m image namings ino
+  pub entries : HoldsEntries g m image ino
+  pub dots : HoldsDots g m image namings ino
+  pub place : HoldsTree g m image namings ino
+  pub records : HoldsRecords g image namings ino
+
+-- ---- those that are broken, by their numbers
+
+-- rule 12
 abbrev pub BreaksTwelve : Geometry → Manifest → List ℕ → List Means → ℕ → Type 0
 BreaksTwelve g m image namings ino = BreaksLinks g image namings ino ⊎ BreaksDirectoryLinks g m image namings ino
 

@@ -5,7 +5,7 @@ ghost use Rattle.xn_bytes.specs.Causes.{Rose};
 ghost use Rattle.xn_inode.specs.Frames.{StoreStays};
 ghost use Rattle.xn_bytes.specs.Superblock.{Geometry};
 ghost use Rattle.xn_meaning.specs.Manifests.{HasPlaces};
-ghost use Rattle.xn_meaning.specs.Checking.{directories_among};
+ghost use Rattle.xn_rules.specs.Checking.{directories_among};
 ghost use Rattle.xn_facts.specs.Facts.{NodeHolds};
 ghost use Rattle.xn_check.specs.Examined.{IsExamined, Refuses};
 ghost use Rattle.xn_check.specs.declared.fault.CheckFault.TheVariants.{Read};

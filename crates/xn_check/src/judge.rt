@@ -1,9 +1,11 @@
 //! The rules from 5 on, over what was found of an image's live inodes.
 
-ghost use Rattle.std.specs.Prelude.{◌≡◌, ◌≢◌, ◌<◌, ℕ, IfErr, IfOk, List, length, map};
+ghost use Rattle.std.specs.Prelude.{◌≡◌, ◌≢◌, ◌↔◌, ◌<◌, ℕ, Contains, IfErr, IfOk, List, length, map};
 ghost use Rattle.std.specs.List.{AllAdjacentBelow};
+ghost use Rattle.std.specs.List.Sorted.{IsNonDecreasingBy};
 ghost use Rattle.xn_meaning.specs.Manifests.{Manifest};
 ghost use Rattle.xn_facts.specs.Facts.{mapped_of};
+ghost use Rattle.xn_reach.specs.Steps.{Leads};
 ghost use Rattle.xn_check.specs.Judged.{AreNamesOf, IsFound, IsSortedOut, Judges};
 ghost use Rattle.xn_check.specs.Known.{AreSearched};
 ghost use Rattle.xn_check.specs.declared.fault.CheckFault.TheVariants.{Memory, Read};
@@ -13,11 +15,12 @@ use crate::first::first_broken;
 use crate::names::Names;
 use crate::whole_image::{root_is_right, runs_are_right};
 use std::alloc::Global;
+use xn_bytes::Memory as OutOfMemory;
 use xn_census::SortedOut;
 use xn_facts::{Node, Run};
 use xn_inode::Super;
 use xn_names::in_order;
-use xn_reach::Reached;
+use xn_reach::{Reached, Step};
 
 /// How many entries there are, where all rules from 5 on hold; else the first that is broken. The nodes are those of the live inodes,
 /// and the runs those of all their forks.
@@ -65,11 +68,19 @@ fn names_of(alloc: Global, geometry: &Super, out: SortedOut) -> Result<Names, Ch
         namings,
         steps,
     } = out;
-    let reached = Reached::from(alloc, &steps, geometry.root())?;
-    let namings = in_order(namings)?;
+    let reached = reached_by(alloc, geometry, steps)?;
     Ok(Names {
         wholes,
-        namings,
+        namings: in_order(namings),
         reached,
     })
+}
+
+/// What steps lead to from the root. They are dropped here, before entries are sorted.
+fn reached_by(alloc: Global, geometry: &Super, steps: Vec<Step>) -> Result<Reached, OutOfMemory>
+    requires { IsNonDecreasingBy (λ step. step.from) steps.items }
+    ensures { IfOk result (λ reached. (number : ℕ) → Contains reached number
+        ↔ ((path : List ℕ) × Leads steps.items geometry.now.root path number)) }
+{
+    Reached::from(alloc, &steps, geometry.root())
 }

@@ -1,7 +1,7 @@
 //! The blocks of the pool that forks map.
 
 ghost use Rattle.std.specs.Prelude.{◌≡◌, ◌↔◌, ◌<◌, ◌^◌, ℕ, All, Any, Contains, map};
-ghost use Rattle.xn_meaning.specs.Sound.{Maps};
+ghost use Rattle.xn_rules.specs.Sound.{Maps};
 ghost use Rattle.xn_facts.specs.Facts.{mapped_of};
 
 use xn_facts::Run;

@@ -3,11 +3,12 @@
 ghost use Rattle.std.specs.Prelude.{◌≡◌, ◌<◌, ℕ, List, MatchBool, MatchOption, length};
 ghost use Rattle.std.specs.List.{AllAdjacentBelow};
 ghost use Rattle.xn_bytes.specs.Superblock.{Geometry};
-ghost use Rattle.xn_meaning.specs.Namings.{Naming};
+ghost use Rattle.xn_rules.specs.Namings.{Naming};
 ghost use Rattle.xn_meaning.specs.Manifests.{IsLive, Manifest};
-ghost use Rattle.xn_meaning.specs.NameRules.{BreaksDots, BreaksEntries, BreaksRecords, BreaksRule, BreaksTree};
-ghost use Rattle.xn_facts.specs.Facts.{IsFirstOf, NodeHolds};
+ghost use Rattle.xn_rules.specs.NameRules.{BreaksDots, BreaksEntries, BreaksRecords, BreaksRule, BreaksTree, Stands};
+ghost use Rattle.xn_facts.specs.Facts.{IsFirst, NodeHolds};
 ghost use Rattle.xn_check.specs.Known.{AreSearched, BreaksBetween, BreaksTwelve, IsWholeAmong, NamesHold, WholeIs, meant};
+ghost use Rattle.xn_check.specs.Known.{HoldsBetween, HoldsDots, HoldsEntries, HoldsRecords, HoldsTree, HoldsTwelve};
 
 use crate::names::Names;
 use xn_bytes::Kind;
@@ -16,20 +17,22 @@ use xn_facts::{Broken, Node, lesser};
 use xn_inode::Super;
 use xn_names::{are_records, has_directory_links, has_dotdot, has_links, has_place, naming};
 
-/// The least rule that an inode breaks, by itself or against the entries of all.
+/// The least rule that an inode breaks, by itself or against the entries of all; where it breaks none, it stands.
 pub(crate) fn broken_rule(geometry: &Super, names: &Names, node: &Node) -> Option<Broken>
     requires { AreSearched names.now }
     ensures { (m : Manifest) (image : List ℕ) → NamesHold geometry.now m image names.now → IsLive geometry.now m node.now.ino → NodeHolds geometry.now image node.now
-        → IsFirstOf (BreaksRule geometry.now m image (meant names.now) node.now.ino) result }
+        → MatchOption result (Stands geometry.now m image (meant names.now) node.now.ino)
+        (IsFirst (BreaksRule geometry.now m image (meant names.now) node.now.ino)) }
 {
     lesser(node.broken, broken_between(geometry, names, node))
 }
 
-/// The least of the rules between inodes that it breaks: the table of these rules, in their order.
+/// The least of the rules between inodes that it breaks, or all of them hold: the table of these rules, in their order.
 fn broken_between(geometry: &Super, names: &Names, node: &Node) -> Option<Broken>
     requires { AreSearched names.now }
     ensures { (m : Manifest) (image : List ℕ) → NamesHold geometry.now m image names.now → IsLive geometry.now m node.now.ino → NodeHolds geometry.now image node.now
-        → IsFirstOf (BreaksBetween geometry.now m image (meant names.now) node.now.ino) result }
+        → MatchOption result (HoldsBetween geometry.now m image (meant names.now) node.now.ino)
+        (IsFirst (BreaksBetween geometry.now m image (meant names.now) node.now.ino)) }
 {
     let whole = whole_of(&names.wholes, node.ino);
     if !links_are_right(geometry, names, node, whole) {
@@ -74,7 +77,8 @@ fn whole_of(wholes: &[Whole], dir: u64) -> Option<Whole>
 fn links_are_right(geometry: &Super, names: &Names, node: &Node, whole: Option<Whole>) -> bool
     requires { AreSearched names.now }
     ensures { (m : Manifest) (image : List ℕ) → WholeIs geometry.now m image (meant names.now) node.now.ino whole → NodeHolds geometry.now image node.now
-        → MatchBool result (¬ BreaksTwelve geometry.now m image (meant names.now) node.now.ino) (BreaksTwelve geometry.now m image (meant names.now) node.now.ino) }
+        → MatchBool result (HoldsTwelve geometry.now m image (meant names.now) node.now.ino)
+        (BreaksTwelve geometry.now m image (meant names.now) node.now.ino) }
 {
     let Some(known) = node.known else {
         return true;
@@ -98,7 +102,8 @@ fn links_are_right(geometry: &Super, names: &Names, node: &Node, whole: Option<W
 
 /// Rule 21: the entries of a directory name live inodes, each as one of its kind.
 fn entries_are_right(whole: Option<Whole>) -> bool
-    ensures { (g : Geometry) (m : Manifest) (image : List ℕ) (namings : List Naming) (dir : ℕ) → WholeIs g m image namings dir whole → MatchBool result (¬ BreaksEntries g m image dir) (BreaksEntries g m image dir) }
+    ensures { (g : Geometry) (m : Manifest) (image : List ℕ) (namings : List Naming) (dir : ℕ) → WholeIs g m image namings dir whole
+        → MatchBool result (HoldsEntries g m image dir) (BreaksEntries g m image dir) }
 {
     match whole {
         Some(whole) => whole.is_right,
@@ -109,7 +114,8 @@ fn entries_are_right(whole: Option<Whole>) -> bool
 /// Rule 22: dot is the directory, and dotdot that in which an entry names it.
 fn dots_are_right(geometry: &Super, names: &Names, whole: Option<Whole>) -> bool
     requires { AreSearched names.now }
-    ensures { (m : Manifest) (image : List ℕ) (dir : ℕ) → WholeIs geometry.now m image (meant names.now) dir whole → MatchBool result (¬ BreaksDots geometry.now m image (meant names.now) dir) (BreaksDots geometry.now m image (meant names.now) dir) }
+    ensures { (m : Manifest) (image : List ℕ) (dir : ℕ) → WholeIs geometry.now m image (meant names.now) dir whole
+        → MatchBool result (HoldsDots geometry.now m image (meant names.now) dir) (BreaksDots geometry.now m image (meant names.now) dir) }
 {
     match whole {
         Some(whole) if whole.is_right => {
@@ -123,7 +129,7 @@ fn dots_are_right(geometry: &Super, names: &Names, whole: Option<Whole>) -> bool
 fn place_is_right(geometry: &Super, names: &Names, whole: Option<Whole>) -> bool
     requires { AreSearched names.now }
     ensures { (m : Manifest) (image : List ℕ) (dir : ℕ) → NamesHold geometry.now m image names.now → WholeIs geometry.now m image (meant names.now) dir whole
-        → MatchBool result (¬ BreaksTree geometry.now m image (meant names.now) dir) (BreaksTree geometry.now m image (meant names.now) dir) }
+        → MatchBool result (HoldsTree geometry.now m image (meant names.now) dir) (BreaksTree geometry.now m image (meant names.now) dir) }
 {
     match whole {
         Some(whole) if whole.is_right => {
@@ -144,7 +150,7 @@ fn place_is_right(geometry: &Super, names: &Names, whole: Option<Whole>) -> bool
 fn records_are_right(names: &Names, node: &Node) -> bool
     requires { AreSearched names.now }
     ensures { (g : Geometry) (m : Manifest) (image : List ℕ) → NamesHold g m image names.now → NodeHolds g image node.now
-        → MatchBool result (¬ BreaksRecords g image (meant names.now) node.now.ino) (BreaksRecords g image (meant names.now) node.now.ino) }
+        → MatchBool result (HoldsRecords g image (meant names.now) node.now.ino) (BreaksRecords g image (meant names.now) node.now.ino) }
 {
     match &node.parents {
         Some(parents) => are_records(naming(&names.namings, node.ino), parents),

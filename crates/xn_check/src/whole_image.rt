@@ -4,8 +4,8 @@ ghost use Rattle.std.specs.Prelude.{◌≡◌, ◌↔◌, ℕ, ◌/◌, ◌<◌,
 ghost use Rattle.std.specs.List.{AllAdjacentBelow};
 ghost use Rattle.std.specs.List.Sorted.{IsNonDecreasing};
 ghost use Rattle.xn_meaning.specs.Manifests.{Manifest};
-ghost use Rattle.xn_meaning.specs.Namings.{AreLive, Naming};
-ghost use Rattle.xn_meaning.specs.Sound.{HasRightRoot, MapOnce};
+ghost use Rattle.xn_rules.specs.Namings.{AreLive, Naming};
+ghost use Rattle.xn_rules.specs.Sound.{HasRightRoot, MapOnce};
 ghost use Rattle.xn_facts.specs.Facts.{NodeHolds, mapped_of};
 ghost use Rattle.xn_check.specs.Spanned.{span_of};
 

@@ -11,8 +11,8 @@ use Rattle.xn_inode.specs.declared.fork_fault.ForkFault.TheVariants.{Read, Memor
 use Rattle.xn_inode.specs.declared.store.Store.{Ghosts}
 use Rattle.xn_dir.specs.Faults.{IsFaultOf}
 use Rattle.xn_dir.specs.Listings.{entry_of}
-use Rattle.xn_meaning.specs.InodeRules.{IsOfDirectory}
-use Rattle.xn_meaning.specs.NameRules.{HasDot}
+use Rattle.xn_rules.specs.InodeRules.{IsOfDirectory}
+use Rattle.xn_rules.specs.NameRules.{HasDot}
 use Rattle.xn_verdicts.proofs.OneList.{one_dotdot}
 use Rattle.xn_facts.specs.declared.facts.Broken as verdict
 use Rattle.xn_facts.specs.declared.facts.Contents.{Contents}

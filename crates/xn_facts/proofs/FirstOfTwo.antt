@@ -44,3 +44,14 @@ first_of_both F G None None no_one no_other = λ rule block. neither F G rule bl
 first_of_both F G None (Some second) no_one of_other = (inr of_other.0, λ rule block. below_both F G second.rule rule block (λ breaks. absurd (no_one rule block breaks)) (of_other.1 rule block))
 first_of_both F G (Some first) None of_one no_other = (inl of_one.0, λ rule block. below_both F G first.rule rule block (of_one.1 rule block) (λ breaks. absurd (no_other rule block breaks)))
 first_of_both F G (Some first) (Some second) of_one of_other = chosen F G first second (nat_lt second.rule first.rule) refl of_one of_other
+
+-- ---- where none is broken
+
+some_chosen : (first second : Broken) (less : Bool) → (if less then Some second else Some first) ≡ None → ⊥
+some_chosen first second true none = cc
+some_chosen first second false none = cc
+
+pub none_of_both : (one other : Option Broken) → lesser_of one other ≡ None → (one ≡ None) × (other ≡ None)
+none_of_both None other none = (refl, none)
+none_of_both (Some first) None none = absurd cc
+none_of_both (Some first) (Some second) none = absurd (some_chosen first second (nat_lt second.rule first.rule) none)

@@ -8,7 +8,7 @@ use Rattle.xn_bytes.specs.Superblock.{Geometry}
 use Rattle.xn_bytes.specs.Inode.{CoreFields, CoreHolds, extents_format, attr_fork_of, data_fork_of}
 use Rattle.xn_bytes.specs.DirectoryForms.{HasAttrList, HasDataList, HasForkLists, IsExtentList, attr_extents_of, data_extents_of}
 use Rattle.xn_bytes.specs.Extents.{Run as Mapped, runs_in}
-use Rattle.xn_meaning.specs.InodeRules.{IsOfDirectory, attr_fork_runs, data_fork_runs}
+use Rattle.xn_rules.specs.InodeRules.{IsOfDirectory, attr_fork_runs, data_fork_runs}
 use Rattle.xn_facts.specs.Facts.{AreForkRuns}
 use Rattle.xn_facts.proofs.Owning.{kind_of_directory, of_directory}
 

@@ -1,13 +1,15 @@
 -- What the bytes of an inode say of it, by its core and by what its forks map.
-use Rattle.std.proofs.Common.{◌≡◌, ℕ, List, ◌++◌, Option, Some, None, sym, ap, ◌∙◌, inl, inr}
+use Rattle.std.proofs.Common.{◌≡◌, ℕ, List, ◌++◌, Option, Some, None, refl, sym, ap, ◌∙◌, inl, inr}
 use Rattle.std.specs.Prelude.{MatchOption}
+use Rattle.std.proofs.lemmas.Bool.{cases_eq}
 use Rattle.xn_bytes.specs.declared.kind.Kind.TheVariants.{Dir}
+use Rattle.xn_bytes.specs.Numbers.{number_at}
 use Rattle.xn_bytes.specs.Superblock.{Geometry}
 use Rattle.xn_bytes.specs.Inode.{CoreFields, CoreHolds, HasBothForks, HasCore, inode_of}
 use Rattle.xn_bytes.specs.Extents.{Run as Mapped}
 use Rattle.xn_bytes.specs.AttributeForks.{HasOwnInode}
-use Rattle.xn_meaning.specs.InodeRules.{IsOfDirectory, attr_fork_runs, blocks_in, data_fork_runs}
-use Rattle.xn_meaning.specs.Sound.{AreRunsOf}
+use Rattle.xn_rules.specs.InodeRules.{HasBlockCount, IsOfDirectory, attr_fork_runs, blocks_in, data_fork_runs}
+use Rattle.xn_rules.specs.Sound.{AreRunsOf}
 use Rattle.xn_facts.specs.declared.facts.Broken.{Broken}
 use Rattle.xn_facts.specs.declared.facts.Known.{Known}
 use Rattle.xn_facts.specs.Facts.{AreForkRuns, IsFirstOf, IsKnown, IsUnknown}
@@ -75,3 +77,10 @@ module _ (g : Geometry) (inode : List ℕ) (ino : ℕ) (core : CoreFields) (runs
 -- where one of the rules 10, 11 and 13 is broken, rule 14 isn't looked at
 pub no_count : (g : Geometry) (inode : List ℕ) (ino : ℕ) → (HasOwnInode g inode ino → ⊥) → IsFirstOf (BreaksOwnCount g inode ino) None
 no_count g inode ino not = λ rule block breaks. not breaks.2.own
+
+-- and where it is looked at and not broken, it holds
+pub counted : (g : Geometry) (inode : List ℕ) (ino : ℕ) → HasOwnInode g inode ino → IsFirstOf (BreaksOwnCount g inode ino) None → IsOfDirectory inode → HasBlockCount inode
+counted g inode ino own none directory = elim (cases_eq (number_at 8 64 inode) (blocks_in (data_fork_runs inode ++ attr_fork_runs inode))) [
+  | inl right ↦ right
+  | inr wrong ↦ absurd (none 14 0 (refl, refl, record { own = own; directory = directory; wrong = wrong }))
+]

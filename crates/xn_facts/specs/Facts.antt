@@ -13,9 +13,9 @@ use Rattle.xn_bytes.specs.DirectoryRules.{HasInode}
 use Rattle.xn_bytes.specs.Parents.{ParentRecord}
 use Rattle.xn_bytes.specs.AttributeForks.{HasOwnInode}
 use Rattle.xn_bytes.specs.ParentRecords.{IsParentsOf, ListsParents}
-use Rattle.xn_meaning.specs.InodeRules.{IsOfDirectory, BreaksAlone, data_fork_runs, attr_fork_runs}
-use Rattle.xn_meaning.specs.NameRules.{HasDot}
-use Rattle.xn_meaning.specs.Sound.{AreRunsOf}
+use Rattle.xn_rules.specs.InodeRules.{IsOfDirectory, HasBlockCount, BreaksAlone, data_fork_runs, attr_fork_runs}
+use Rattle.xn_rules.specs.NameRules.{HasDot}
+use Rattle.xn_rules.specs.Sound.{AreRunsOf}
 use Rattle.xn_dir.specs.Listings.{entry_of}
 use Rattle.xn_items.specs.Viewed.{record_of}
 use Rattle.xn_facts.specs.declared.facts.Broken.{Broken}
@@ -67,17 +67,27 @@ pub record IsKnown (g : Geometry) (image : List ℕ) (ino : ℕ) (known : Known)
 abbrev pub IsUnknown : Geometry → List ℕ → ℕ → Type 0
 IsUnknown g image ino = ¬ (HasCore (inode_of g image ino) ino g.meta_uuid × HasBothForks g (inode_of g image ino) ino)
 
+-- a rule that is broken, of some the first
+abbrev pub IsFirst : (ℕ → ℕ → Type 0) → Broken → Type 0
+IsFirst Breaks first = Breaks first.rule first.block × ((rule block : ℕ) → Breaks rule block → first.rule ≤ rule)
+
 -- the first of some rules, if one is broken
 abbrev pub IsFirstOf : (ℕ → ℕ → Type 0) → Option Broken → Type 0
-IsFirstOf Breaks broken =
-    MatchOption broken ((rule block : ℕ) → ¬ Breaks rule block)
-    (λ first. Breaks first.rule first.block × ((rule block : ℕ) → Breaks rule block → first.rule ≤ rule))
+IsFirstOf Breaks broken = MatchOption broken ((rule block : ℕ) → ¬ Breaks rule block) (IsFirst Breaks)
+
+-- an inode of which the rules on one inode and its blocks hold
+pub record StandsAlone (g : Geometry) (image : List ℕ) (ino : ℕ) : Type 0 where
+  pub own : HasOwnInode g (inode_of g image ino) ino
+  pub blocks : IsOfDirectory (inode_of g image ino) → HasBlockCount (inode_of g image ino)
+  pub directory : IsOfDirectory (inode_of g image ino) → (entries : List Entry) × (dotdot : ℕ) × IsHeld g image ino entries dotdot
+  pub parents : (records : List ParentRecord) × IsParentsOf g image ino records
 
 pub record NodeHolds (g : Geometry) (image : List ℕ) (node : Node) : Type 0 where
   pub directory : IsTrue node.is_directory ↔ IsOfDirectory (inode_of g image node.ino)
   pub known : MatchOption node.known (IsUnknown g image node.ino) (IsKnown g image node.ino)
   pub parents : MatchOption node.parents ((records : List ParentRecord) → HasOwnInode g (inode_of g image node.ino) node.ino → ¬ IsParentsOf g image node.ino records) (λ parents. ListsParents g image node.ino (map record_of parents.items))
   pub broken : IsFirstOf (BreaksAlone g image node.ino) node.broken
+  pub stands : node.broken ≡ None → StandsAlone g image node.ino
 
 pub record FactsHold (g : Geometry) (image : List ℕ) (facts : Facts) : Type 0 where
   pub node : NodeHolds g image facts.node

@@ -1,13 +1,14 @@
 -- What the bytes of an inode say of it, whatever its blocks hold.
-use Rattle.std.specs.Prelude.{◌≡◌, ◌⊎◌, ℕ, List, [], map, Some, MatchOption}
+use Rattle.std.specs.Prelude.{◌≡◌, ◌⊎◌, ℕ, List, [], map, Some, MatchOption, Result, MatchResult}
 use Rattle.xn_bytes.specs.declared.kind.Kind.TheVariants.{Dir}
-use Rattle.xn_bytes.specs.Superblock.{Geometry}
-use Rattle.xn_bytes.specs.Inode.{CoreFields, HasCore, HasBothForks}
+use Rattle.xn_bytes.specs.Superblock.{Geometry, OrElse}
+use Rattle.xn_bytes.specs.Inode.{CoreFields, CoreHolds, HasCore, HasBothForks}
 use Rattle.xn_bytes.specs.Extents.{Run as Mapped}
 use Rattle.xn_bytes.specs.AttributeForks.{HasOwnInode}
-use Rattle.xn_meaning.specs.InodeRules.{BreaksBlockCount, blocks_in}
+use Rattle.xn_rules.specs.InodeRules.{BreaksBlockCount, blocks_in}
 use Rattle.xn_bytes.specs.Kinds.{kind_of_mode}
 use Rattle.xn_bytes.specs.Numbers.{number_at}
+use Rattle.xn_inode.specs.declared.inode_core.CoreFault.{CoreFault}
 use Rattle.xn_facts.specs.declared.facts.Known.{Known}
 use Rattle.xn_facts.specs.declared.own.Own.{Own}
 use Rattle.xn_facts.specs.Facts.{AreForkRuns, IsFirstOf, mapped_of}
@@ -17,6 +18,12 @@ pub record HasFields (core : CoreFields) (known : Known) : Type 0 where
   pub kind : known.kind ≡ core.kind
   pub nlink : known.nlink ≡ core.nlink
   pub generation : known.generation ≡ core.generation
+
+-- the verdict on the core of these bytes: its fields, where rules 10 and 11 hold, else the lesser of the two that is broken
+abbrev pub IsCoreVerdict : Geometry → ℕ → List ℕ → Result CoreFields CoreFault → Type 0
+IsCoreVerdict g ino inode verdict =
+    MatchResult verdict (λ core. HasCore inode ino g.meta_uuid × HasBothForks g inode ino × CoreHolds inode core)
+    (λ fault. OrElse fault.rule 10 (HasCore inode ino g.meta_uuid) (OrElse fault.rule 11 (HasBothForks g inode ino) ⊥))
 
 -- rules 10 and 11 hold of the bytes, and they say this
 pub record IsKnownBy (g : Geometry) (inode : List ℕ) (ino : ℕ) (known : Known) : Type 0 where

@@ -10,8 +10,8 @@ ghost use Rattle.xn_dir.specs.Faults.{IsFaultOf};
 ghost use Rattle.xn_inode.specs.Frames.{StoreStays};
 ghost use Rattle.xn_inode.specs.declared.fork_fault.ForkFault.TheVariants as fork;
 ghost use Rattle.xn_inode.specs.declared.store.StoreFault.TheVariants.{Read, Memory};
-ghost use Rattle.xn_meaning.specs.InodeRules.{IsOfDirectory};
-ghost use Rattle.xn_meaning.specs.NameRules.{HasDot};
+ghost use Rattle.xn_rules.specs.InodeRules.{IsOfDirectory};
+ghost use Rattle.xn_rules.specs.NameRules.{HasDot};
 ghost use Rattle.xn_facts.specs.Facts.{AreContents, IsFirstBlock};
 
 use crate::facts::{Broken, Contents};

@@ -5,7 +5,7 @@ ghost use Rattle.xn_facts.specs.Verdicts.{broken_in, lesser_of};
 
 use xn_bytes::Kind;
 use xn_dir::Listed;
-use xn_inode::{ForkFault, StoreFault};
+use xn_inode::{CoreFault, ForkFault, StoreFault};
 use xn_items::ParentRec;
 
 /// A rule that an inode breaks. Rules 17, 18 and 25 name a block by its number on the device, all others block 0.
@@ -16,6 +16,16 @@ pub struct Broken {
 }
 
 impl Broken {
+    /// The rule that a core breaks, which names no block.
+    pub(crate) fn of_core(fault: CoreFault) -> Broken
+        ensures { (result.rule ≡ fault.rule) × (result.block ≡ 0) }
+    {
+        Broken {
+            rule: fault.rule,
+            block: 0,
+        }
+    }
+
     /// The rule that a fault of a fork names; else the store's fault.
     pub(crate) fn of_fault(fault: ForkFault) -> Result<Broken, StoreFault>
         ensures { result ≡ broken_in fault }

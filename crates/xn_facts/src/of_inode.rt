@@ -1,32 +1,31 @@
 //! The facts of an inode of a store.
 
-ghost use Rattle.std.specs.Prelude.{◌≡◌, ◌↔◌, List, IsTrue, IfErr, IfOk, IfSome, MatchOption, MatchResult, map};
+ghost use Rattle.std.specs.Prelude.{◌≡◌, ◌↔◌, IsTrue, IfErr, IfOk, IfSome, MatchResult, map};
 ghost use Rattle.std.specs.Result.{result_ok, result_err};
 ghost use Rattle.xn_bytes.specs.Causes.{Rose};
-ghost use Rattle.xn_bytes.specs.Inode.{inode_of};
-ghost use Rattle.xn_bytes.specs.Parents.{ParentRecord};
-ghost use Rattle.xn_bytes.specs.AttributeForks.{HasOwnInode};
-ghost use Rattle.xn_bytes.specs.ParentRecords.{IsParentsOf, ListsParents, ParentsBreak};
+ghost use Rattle.xn_bytes.specs.Inode.{CoreHolds, HasBothForks, HasCore, inode_of};
+ghost use Rattle.xn_bytes.specs.ParentRecords.{ListsParents, ParentsBreak};
 ghost use Rattle.xn_bytes.specs.Superblock.{IsInode};
 ghost use Rattle.xn_inode.specs.Frames.{StoreStays};
 ghost use Rattle.xn_inode.specs.declared.store.StoreFault.TheVariants.{Read};
 ghost use Rattle.xn_items.specs.Viewed.{record_of};
-ghost use Rattle.xn_meaning.specs.InodeRules.{IsOfDirectory};
-ghost use Rattle.xn_facts.specs.Facts.{FactsHold, IsFirstOf};
-ghost use Rattle.xn_facts.specs.Seen.{IsSeenDirectory};
+ghost use Rattle.xn_rules.specs.InodeRules.{IsOfDirectory};
+ghost use Rattle.xn_facts.specs.Owned.{IsCoreVerdict};
+ghost use Rattle.xn_facts.specs.Facts.{FactsHold};
+ghost use Rattle.xn_facts.specs.Seen.{AreSeenParents, IsSeenDirectory};
 
 use crate::contents::contents_of;
 use crate::facts::{Broken, Contents, Facts, Node, lesser};
 use crate::own::own_of;
 use std::alloc::Global;
 use xn_bytes::{Kind, u16_at};
-use xn_inode::{Store, StoreFault};
+use xn_inode::{Core, CoreFault, Store, StoreFault};
 use xn_items::ParentRec;
-use xn_parent::parents;
+use xn_parent::parents_in_inode;
 
 const INODE_BYTES: usize = 512;
 
-/// What the rules on one inode and its blocks say of this inode. It reads the inode twice, of a directory four times, and each
+/// What the rules on one inode and its blocks say of this inode. It reads the inode once, of a directory three times, and each
 /// block of its forks once, of a directory the first one three times.
 pub fn facts_of<S: Store>(alloc: Global, store: &mut S, ino: u64) -> Result<Facts, StoreFault>
     requires whole { S.IsWhole store.old }
@@ -39,9 +38,10 @@ pub fn facts_of<S: Store>(alloc: Global, store: &mut S, ino: u64) -> Result<Fact
     let mut inode = [0; INODE_BYTES];
     store.inode(ino, &mut inode)?;
     let is_directory = is_directory(&inode);
-    let own = own_of(alloc, store.geometry(), ino, &inode)?;
+    let core = Core::of_inode(store.geometry(), ino, &inode);
+    let own = own_of(alloc, store.geometry(), ino, &core, &inode)?;
     let (contents, of_directory) = directory_of(alloc, store, ino, &inode)?;
-    let (parents, of_parents) = records_of(alloc, store, ino)?;
+    let (parents, of_parents) = records_of(alloc, store, ino, &core, &inode)?;
     let broken = lesser(of_directory, lesser(own.broken, of_parents));
     let node = Node {
         ino,
@@ -85,18 +85,24 @@ fn records_of<S: Store>(
     alloc: Global,
     store: &mut S,
     ino: u64,
+    core: &Result<Core, CoreFault>,
+    inode: &[u8],
 ) -> Result<(Option<Vec<ParentRec>>, Option<Broken>), StoreFault>
     requires whole { S.IsWhole store.old }
     requires place { IsInode (S.shape store.old) ino }
-    ensures parents { IfOk result (λ found. IfSome (S.image store.old) (λ x. MatchOption found.0
-        ((records : List ParentRecord) → HasOwnInode (S.shape store.old) (inode_of (S.shape store.old) x ino) ino → ¬ IsParentsOf (S.shape store.old) x ino records)
-        (λ parents. ListsParents (S.shape store.old) x ino (map record_of parents.items)))) }
-    ensures broken { IfOk result (λ found. IfSome (S.image store.old) (λ x. IsFirstOf (ParentsBreak (S.shape store.old) x ino) found.1)) }
+    requires bytes { IfSome (S.image store.old) (λ x. inode.now ≡ inode_of (S.shape store.old) x ino) }
+    requires core { IsCoreVerdict (S.shape store.old) ino inode.now core.now }
+    ensures found { IfOk result (λ found. IfSome (S.image store.old) (λ x. AreSeenParents (S.shape store.old) x ino found.0 found.1)) }
     ensures cause { IfErr result (λ fault. fault ≡ Read → Rose (S.faults store.old) (S.faults store.new)) }
     ensures stays { StoreStays S.Store store.old store.new }
 {
-    let verdict = parents_of(alloc, store, ino)?;
-    Ok(both(verdict))
+    match core {
+        Ok(core) => {
+            let verdict = parents_of(alloc, store, ino, core, inode)?;
+            Ok(both(verdict))
+        }
+        Err(fault) => Ok((None, Some(Broken::of_core(*fault)))),
+    }
 }
 
 /// A verdict as what is there of the two.
@@ -115,16 +121,22 @@ fn parents_of<S: Store>(
     alloc: Global,
     store: &mut S,
     ino: u64,
+    core: &Core,
+    inode: &[u8],
 ) -> Result<Result<Vec<ParentRec>, Broken>, StoreFault>
     requires whole { S.IsWhole store.old }
     requires place { IsInode (S.shape store.old) ino }
+    requires bytes { IfSome (S.image store.old) (λ x. inode.now ≡ inode_of (S.shape store.old) x ino) }
+    requires core { CoreHolds inode.now core.now }
+    requires rule_ten { HasCore inode.now ino (S.shape store.old).meta_uuid }
+    requires rule_eleven { HasBothForks (S.shape store.old) inode.now ino }
     ensures verdict { IfOk result (λ verdict. IfSome (S.image store.old) (λ x. MatchResult verdict
         (λ parents. ListsParents (S.shape store.old) x ino (map record_of parents.items))
         (λ broken. ParentsBreak (S.shape store.old) x ino broken.rule broken.block))) }
     ensures cause { IfErr result (λ fault. fault ≡ Read → Rose (S.faults store.old) (S.faults store.new)) }
     ensures stays { StoreStays S.Store store.old store.new }
 {
-    match parents(alloc, store, ino) {
+    match parents_in_inode(alloc, store, ino, core, inode) {
         Ok(parents) => Ok(Ok(parents)),
         Err(fault) => Ok(Err(Broken::of_fault(fault)?)),
     }

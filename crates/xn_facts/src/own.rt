@@ -1,16 +1,16 @@
 //! What the bytes of an inode say of it, whatever its blocks hold.
 
 ghost use Rattle.std.specs.Prelude.{◌≡◌, ◌+◌, IfErr, IfOk, MatchOption, MatchResult, map};
-ghost use Rattle.xn_bytes.specs.Inode.{CoreHolds, HasBothForks, HasCore, HasForks};
+ghost use Rattle.xn_bytes.specs.Inode.{CoreHolds, HasForks};
 ghost use Rattle.xn_bytes.specs.DirectoryForms.{HasForkLists};
 ghost use Rattle.xn_inode.specs.declared.store.StoreFault.TheVariants.{Memory};
 ghost use Rattle.xn_facts.specs.Facts.{AreForkRuns, IsFirstOf, mapped_of};
-ghost use Rattle.xn_facts.specs.Owned.{BreaksCount, HasFields, OwnHolds};
+ghost use Rattle.xn_facts.specs.Owned.{BreaksCount, HasFields, IsCoreVerdict, OwnHolds};
 
 use crate::facts::{Broken, Known, Run};
 use crate::runs::{fork_runs, is_of_directory, map_as_many};
 use std::alloc::Global;
-use xn_inode::{Core, ForkFault, StoreFault, Super};
+use xn_inode::{Core, CoreFault, ForkFault, StoreFault, Super};
 
 /// Rule 14: the count of blocks in a directory's core is that of the blocks that its forks map.
 const BLOCK_COUNT: u8 = 14;
@@ -26,27 +26,29 @@ pub(crate) struct Own {
     pub(crate) broken: Option<Broken>,
 }
 
-/// What these bytes of an inode say of it.
+/// What these bytes of an inode, and the verdict on its core, say of it.
 pub(crate) fn own_of(
     alloc: Global,
     geometry: &Super,
     ino: u64,
+    core: &Result<Core, CoreFault>,
     inode: &[u8],
 ) -> Result<Own, StoreFault>
+    requires core { IsCoreVerdict geometry.now ino inode.now core.now }
     ensures own { IfOk result (OwnHolds geometry.now inode.now ino) }
     ensures memory { IfErr result (λ fault. fault ≡ Memory) }
 {
-    let Some(core) = core_of(geometry, ino, inode) else {
+    let Ok(core) = core else {
         return Ok(Own {
             known: None,
             runs: Vec::new(alloc),
             broken: None,
         });
     };
-    let known = Some(known_of(&core));
-    match listed_runs(alloc, geometry, &core, inode)? {
+    let known = Some(known_of(core));
+    match listed_runs(alloc, geometry, core, inode)? {
         Some(runs) => {
-            let broken = broken_count(&core, &runs);
+            let broken = broken_count(core, &runs);
             Ok(Own {
                 known,
                 runs,
@@ -59,15 +61,6 @@ pub(crate) fn own_of(
             broken: None,
         }),
     }
-}
-
-/// The core of an inode, where rules 10 and 11 hold.
-fn core_of(geometry: &Super, ino: u64, inode: &[u8]) -> Option<Core>
-    ensures { MatchOption result
-        (¬ (HasCore inode.now ino geometry.now.meta_uuid × HasBothForks geometry.now inode.now ino))
-        (λ core. HasCore inode.now ino geometry.now.meta_uuid × HasBothForks geometry.now inode.now ino × CoreHolds inode.now core) }
-{
-    Core::of_inode(geometry, ino, inode).ok()
 }
 
 /// What is kept of a core.

@@ -6,7 +6,7 @@ ghost use Rattle.xn_bytes.specs.DirectoryForms.{HasForkLists, IsExtentList};
 ghost use Rattle.xn_bytes.specs.Extents.{runs_in};
 ghost use Rattle.xn_bytes.specs.Inode.{CoreHolds, HasForks};
 ghost use Rattle.xn_inode.specs.Faults.{IsRule};
-ghost use Rattle.xn_meaning.specs.InodeRules.{blocks_in};
+ghost use Rattle.xn_rules.specs.InodeRules.{blocks_in};
 ghost use Rattle.xn_facts.specs.Facts.{AreForkRuns, mapped_of};
 
 use crate::facts::Run;

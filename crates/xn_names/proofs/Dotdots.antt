@@ -3,8 +3,8 @@ use Rattle.std.proofs.Common.{◌≡◌, ◌≢◌, ◌↔◌, ℕ, ◌<◌, Boo
 use Rattle.std.specs.Prelude.{Any}
 use Rattle.std.proofs.lemmas.List.{length-map}
 use Rattle.xn_bytes.specs.Superblock.{Geometry}
-use Rattle.xn_meaning.specs.Namings as namings
-use Rattle.xn_meaning.specs.NameRules.{HasRightDotdot}
+use Rattle.xn_rules.specs.Namings as namings
+use Rattle.xn_rules.specs.NameRules.{HasRightDotdot}
 use Rattle.xn_names.specs.declared.entry.Naming.{Naming}
 use Rattle.xn_names.specs.Names.{naming_of}
 use Rattle.xn_names.proofs.Mapped.{Any-map, Any-unmap}

@@ -3,7 +3,7 @@ use Rattle.std.proofs.Common.{◌≡◌, ℕ, zero, suc, ◌+◌, Bool, true, fa
 use Rattle.std.specs.Prelude.{◌&&◌, ◌⊎◌, ◌==◌, Any, Contains, count_by, filter, IsPermutation}
 use Rattle.std.proofs.lemmas.List.Sums.{length-filter}
 use Rattle.std.proofs.lemmas.List.Sorted.{Contains-permutation}
-use Rattle.xn_meaning.specs.Namings.{Naming, naming, standing_in, Leads}
+use Rattle.xn_rules.specs.Namings.{Naming, naming, standing_in, Leads}
 use Rattle.xn_names.proofs.Counted.{count_by-cons, count_by-permutation}
 
 -- ---- of a filter

@@ -10,8 +10,8 @@ use Rattle.xn_bytes.specs.Inode.{inode_of}
 use Rattle.xn_bytes.specs.Parents.{ParentRecord}
 use Rattle.xn_items.specs.declared.parent.ParentRec.{ParentRec}
 use Rattle.xn_items.specs.Viewed.{record_of}
-use Rattle.xn_meaning.specs.Namings as namings
-use Rattle.xn_meaning.specs.NameRules.{IsUnnamed, HasDirectoryLinks, HasRightDotdot, HasPlaceInTree, says_directory}
+use Rattle.xn_rules.specs.Namings as namings
+use Rattle.xn_rules.specs.NameRules.{IsUnnamed, HasDirectoryLinks, HasRightDotdot, HasPlaceInTree, says_directory}
 use Rattle.xn_names.specs.declared.entry.Naming.{Naming}
 use Rattle.xn_names.specs.Names.{naming_of, asked_by}
 use Rattle.xn_names.proofs.Filtered.{map-filter}

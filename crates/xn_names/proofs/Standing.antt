@@ -8,7 +8,7 @@ use Rattle.xn_bytes.specs.Superblock.{Geometry}
 use Rattle.xn_bytes.specs.Entries.{Entry}
 use Rattle.xn_bytes.specs.DirectoryHolds.{DirHolds}
 use Rattle.xn_meaning.specs.Manifests.{Manifest}
-use Rattle.xn_meaning.specs.Namings.{IsWhole, Naming, naming_of, AreNamingsOf, AreNamingsIn, standing_in}
+use Rattle.xn_rules.specs.Namings.{IsWhole, Naming, naming_of, AreNamingsOf, AreNamingsIn, standing_in}
 use Rattle.xn_names.proofs.Filtered.{filter_none, filter_each}
 
 -- ---- numbers that rise

@@ -2,7 +2,7 @@
 use Rattle.std.proofs.Common.{◌≡◌, ℕ, zero, ◌<◌, List, [], ◌∷◌, length, refl, ◌∙◌, arith, inl, inr, eqb-true, eq-eqb}
 use Rattle.std.specs.Prelude.{◌⊎◌, ◌==◌, All, Any, Contains}
 use Rattle.std.proofs.lemmas.List.Elements.{All-contains}
-use Rattle.xn_meaning.specs.Namings.{Naming, naming, Leads}
+use Rattle.xn_rules.specs.Namings.{Naming, naming, Leads}
 use Rattle.xn_names.proofs.Moved.{contained_in_filter, passes_in_filter}
 
 -- where a way ends, it began, or an entry names that inode

@@ -4,7 +4,7 @@ use Rattle.std.specs.Ordering.{nat_cmp, ordering_then, is_lt}
 use Rattle.std.specs.Cmp.Lexicographic.{slice_cmp}
 use Rattle.std.specs.declared.cmp.Ordering.{Ordering}
 use Rattle.xn_bytes.specs.Parents.{ParentRecord}
-use Rattle.xn_meaning.specs.Namings as namings
+use Rattle.xn_rules.specs.Namings as namings
 use Rattle.xn_names.specs.declared.entry.Naming.{Naming}
 
 -- an entry without its directory's generation, of which the rules speak

@@ -2,7 +2,7 @@
 
 ghost use Rattle.std.specs.Prelude.{◌≡◌, ◌↔◌, IsTrue, Any, map};
 ghost use Rattle.std.specs.List.Sorted.{IsNonDecreasingBy};
-ghost use Rattle.xn_meaning.specs.NameRules.{HasRightDotdot};
+ghost use Rattle.xn_rules.specs.NameRules.{HasRightDotdot};
 ghost use Rattle.xn_names.specs.Names.{naming_of};
 
 use crate::entry::Naming;

@@ -2,8 +2,8 @@
 
 ghost use Rattle.std.specs.Prelude.{◌≡◌, ◌↔◌, IsTrue, length, map, count_by};
 ghost use Rattle.std.specs.List.Sorted.{IsNonDecreasingBy};
-ghost use Rattle.xn_meaning.specs.Namings.{naming as naming_inode, standing_in};
-ghost use Rattle.xn_meaning.specs.NameRules.{says_directory, HasDirectoryLinks};
+ghost use Rattle.xn_rules.specs.Namings.{naming as naming_inode, standing_in};
+ghost use Rattle.xn_rules.specs.NameRules.{says_directory, HasDirectoryLinks};
 ghost use Rattle.xn_names.specs.Names.{naming_of};
 
 use crate::entry::Naming;

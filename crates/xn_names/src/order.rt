@@ -1,25 +1,22 @@
 //! Entries in order: by the number of the inode that they name, then by that of the directory, then by the bytes of the name.
 
-ghost use Rattle.std.specs.Prelude.{◌≡◌, ◌==◌, IfOk, IsPermutation, map, filter};
+ghost use Rattle.std.specs.Prelude.{◌≡◌, ◌==◌, IsPermutation, map, filter};
 ghost use Rattle.std.specs.List.Sorted.{IsNonDecreasingBy};
-ghost use Rattle.xn_meaning.specs.Namings.{naming as naming_inode};
+ghost use Rattle.xn_rules.specs.Namings.{naming as naming_inode};
 ghost use Rattle.xn_names.specs.Names.{naming_of, naming_cmp, IsInOrder, IsByPlace};
 
 use crate::entry::Naming;
-use std::alloc::AllocError;
 use std::cmp::Ordering;
 
-/// The entries in order.
-pub fn in_order(namings: Vec<Naming>) -> Result<Vec<Naming>, AllocError>
-    ensures same { IfOk result (λ sorted. IsPermutation namings.items sorted.items) }
-    ensures sorted { IfOk result (λ sorted. IsInOrder sorted.items) }
-    ensures by_inode { IfOk result (λ sorted. IsNonDecreasingBy (λ n. n.ino) sorted.items) }
+/// The entries in order. It takes no memory. They take no more memory for it.
+pub fn in_order(namings: Vec<Naming>) -> Vec<Naming>
+    ensures same { IsPermutation namings.items result.items }
+    ensures sorted { IsInOrder result.items }
+    ensures by_inode { IsNonDecreasingBy (λ n. n.ino) result.items }
 {
     let mut sorted = namings;
-    // Numbers are sorted fastest. The second sort finds nearly all in place.
-    sorted.sort_by_cached_key(|naming| (naming.ino, naming.dir))?;
-    sorted.sort_by(|naming, other| compare(naming, other))?;
-    Ok(sorted)
+    sorted.sort_unstable_by(|naming, other| compare(naming, other));
+    sorted
 }
 
 /// The entries that name an inode, which stand one behind the other.

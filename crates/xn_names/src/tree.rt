@@ -2,8 +2,8 @@
 
 ghost use Rattle.std.specs.Prelude.{◌≡◌, ◌↔◌, ℕ, IsTrue, List, [], map};
 ghost use Rattle.std.specs.List.Sorted.{IsNonDecreasingBy};
-ghost use Rattle.xn_meaning.specs.Namings.{standing_in, Leads};
-ghost use Rattle.xn_meaning.specs.NameRules.{IsUnnamed, HasPlaceInTree};
+ghost use Rattle.xn_rules.specs.Namings.{standing_in, Leads};
+ghost use Rattle.xn_rules.specs.NameRules.{IsUnnamed, HasPlaceInTree};
 ghost use Rattle.xn_names.specs.Names.{naming_of};
 
 use crate::entry::Naming;

@@ -7,8 +7,8 @@ use Rattle.std.proofs.lemmas.List.Elements.{All-map, All-weaker}
 use Rattle.xn_bytes.specs.ParentRecords.{IsBefore}
 use Rattle.xn_items.specs.declared.parent.ParentRec.{ParentRec}
 use Rattle.xn_items.specs.Viewed.{record_of}
-use Rattle.xn_meaning.specs.Namings as namings
-use Rattle.xn_meaning.specs.NameRules.{is_directory, says_directory}
+use Rattle.xn_rules.specs.Namings as namings
+use Rattle.xn_rules.specs.NameRules.{is_directory, says_directory}
 use Rattle.xn_names.specs.declared.entry.Naming.{Naming}
 use Rattle.xn_names.specs.Names.{naming_of}
 use Rattle.xn_names.proofs.Filtered.{filter_none, filter_each}

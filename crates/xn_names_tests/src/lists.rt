@@ -3,8 +3,8 @@
 ghost use Rattle.std.specs.Prelude.{ℕ, List, [], ◌≡◌, ◌↔◌, ◌==◌, ◌&&◌, ◌<◌, ◌%◌, IsTrue, IfOk, All, count_by, length, map};
 ghost use Rattle.std.specs.List.{AllAdjacentBelow};
 ghost use Rattle.std.specs.List.Sorted.{IsNonDecreasingBy};
-ghost use Rattle.xn_meaning.specs.Namings.{standing_in, Leads};
-ghost use Rattle.xn_meaning.specs.NameRules.{is_directory};
+ghost use Rattle.xn_rules.specs.Namings.{standing_in, Leads};
+ghost use Rattle.xn_rules.specs.NameRules.{is_directory};
 ghost use Rattle.xn_names.specs.Names.{naming_of, IsInOrder};
 
 use std::alloc::Global;
@@ -31,10 +31,7 @@ pub fn listed(alloc: Global, rows: &[(u64, u64, Kind, &str)]) -> Result<Vec<Nami
         };
         namings.push(entry).map_err(|_| NameFault::Memory)?;
     }
-    match in_order(namings) {
-        Ok(sorted) => Ok(sorted),
-        Err(_) => Err(NameFault::Memory),
-    }
+    Ok(in_order(namings))
 }
 
 /// Whether parents are the records that the entries of an inode ask for, where their directories rise.

@@ -1,6 +1,6 @@
 use Rattle.std.proofs.Common.{length, map, sym, ap, ◌∙◌, Ok, Err}
 use Rattle.std.proofs.lemmas.Result.{err_from_is_err_and}
-use Rattle.xn_meaning.specs.Checking.{directories_among}
+use Rattle.xn_rules.specs.Checking.{directories_among}
 use Rattle.xn_census.proofs.Nodes.{rise_by_numbers}
 use Rattle.xn_check.proofs.Found.{is_sorted_out}
 use Rattle.xn_check.proofs.Examining.{live_places, judged_same, refused_over, examined_over}

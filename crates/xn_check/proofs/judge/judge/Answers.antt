@@ -48,11 +48,11 @@ returns-clause-judges c = λ m image found.
     let are = c.in_ok-names.ensures.names in
     let moved = meant_in_order are in
     let told = root_told found c.requires.nodes c.len-entries.result c.len-entries.ensures true c.if-not-root_is_right.ensures (meant c.in_ok-names.names) moved in
-    let none = c.in-None.ensures m image (names_hold are found.out_holds) (nodes_are_live found c.requires.nodes) found.nodes_hold in (
+    let stand = c.in-None.ensures m image (names_hold are found.out_holds) (nodes_are_live found c.requires.nodes) found.nodes_hold in (
       meant c.in_ok-names.names,
       moved,
       (
-        record { root = told.0 refl; once = c.in_ok-runs_are_right.ensures.0 c.if-not-branch.false; nothing = none },
+        record { root = told.0 refl; once = c.in_ok-runs_are_right.ensures.0 c.if-not-branch.false; stands = rw c.requires.nodes at stand },
         as_many c.args.out (meant c.in_ok-names.names) c.len-entries.result c.len-entries.ensures moved,
       ),
     )

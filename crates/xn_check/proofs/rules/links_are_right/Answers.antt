@@ -4,8 +4,8 @@ use Rattle.std.proofs.lemmas.Bool.{not-false, true≢false}
 use denote.Enum.Bare.{same_true, sameb}
 use Rattle.xn_bytes.specs.contracts.kind.Kind.{the_type}
 use Rattle.xn_bytes.specs.declared.kind.Kind.TheVariants.{Dir}
-use Rattle.xn_meaning.specs.Namings.{naming, standing_in}
-use Rattle.xn_meaning.specs.NameRules.{HasDirectoryLinks, says_directory}
+use Rattle.xn_rules.specs.Namings.{naming, standing_in}
+use Rattle.xn_rules.specs.NameRules.{HasDirectoryLinks, says_directory}
 use Rattle.xn_names.specs.declared.entry.Naming.{Naming}
 use Rattle.xn_names.specs.Names.{naming_of}
 use Rattle.xn_check.specs.Known.{meant}

@@ -1,7 +1,7 @@
 use Rattle.std.proofs.Common.{◌≡◌, ◌↔◌, ℕ, List, [], map, subst}
 use Rattle.std.specs.Prelude.{IsTrue}
-use Rattle.xn_meaning.specs.Namings.{Leads, standing_in}
-use Rattle.xn_meaning.specs.NameRules.{HasPlaceInTree}
+use Rattle.xn_rules.specs.Namings.{Leads, standing_in}
+use Rattle.xn_rules.specs.NameRules.{HasPlaceInTree}
 use Rattle.xn_names.specs.declared.entry.Naming.{Naming}
 use Rattle.xn_names.specs.Names.{naming_of}
 use Rattle.xn_check.specs.Known.{meant}
@@ -23,10 +23,10 @@ returns-in-Some c m image dir names_hold known =
     place_told g m image (meant names) whole dir c.has_place.result of (says of.1.empty (λ yes. leads.0 (reached.0 yes), λ way. reached.1 (leads.1 way)))
 
 pub returns-in_default : goal.returns-in_default
-returns-in_default c m image dir names_hold known = λ breaks.
+returns-in_default c m image dir names_hold known = λ entries dotdot is.
     let none = (found_wrong c.args.geometry.now m image c.args.names.now dir c.args.whole c.in-Some.whole c.in-Some.is c.if-whole.false known).1 in
-    none breaks.entries breaks.dotdot breaks.whole
+    absurd (none entries dotdot is)
 
 pub returns-in_default-2 : goal.returns-in_default-2
-returns-in_default-2 c m image dir names_hold known = λ breaks.
-    found_none c.args.geometry.now m image c.args.names.now dir c.args.whole c.in_default.is known breaks.entries breaks.dotdot breaks.whole
+returns-in_default-2 c m image dir names_hold known = λ entries dotdot is.
+    absurd (found_none c.args.geometry.now m image c.args.names.now dir c.args.whole c.in_default.is known entries dotdot is)

@@ -5,7 +5,7 @@ use Rattle.xn_items.specs.Viewed.{record_of}
 use Rattle.xn_names.specs.Names.{asked_by, naming_of}
 use Rattle.xn_check.specs.Known.{meant}
 use Rattle.xn_check.proofs.RecordLemmas.{asked_for, generations_among, one_each, records_told}
-use Rattle.xn_meaning.specs.Namings as namings
+use Rattle.xn_rules.specs.Namings as namings
 use Rattle.xn_check.proofs.rules.records_are_right.Goals as goal
 
 pub returns-in-Some : goal.returns-in-Some
@@ -22,5 +22,5 @@ returns-in-Some c g m image names_hold holds =
     (c.are_records.ensures (one_each g image run generations) lists.ordered.rising)
 
 pub returns-in-None : goal.returns-in-None
-returns-in-None c g m image names_hold holds = λ breaks.
-    let none = rw c.in-None.is at holds.parents in none breaks.records breaks.own breaks.parents
+returns-in-None c g m image names_hold holds = λ records own parents.
+    let none = rw c.in-None.is at holds.parents in absurd (none records own parents)

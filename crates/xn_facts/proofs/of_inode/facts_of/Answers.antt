@@ -14,7 +14,7 @@ returns-clause-facts g c =
     let read = c.in_ok-inode.ensures in
     let seen = c.in_ok-contents.ensures in
     let listed = c.in_ok-parents.ensures in
-    let shape = c.geometry.ensures ∙ read.shape in
+    let shape = c.geometry-2.ensures ∙ read.shape in
     facts_over (g.S.Store.shape c.args.store.now)
     (record {
       node = record { ino = c.args.ino; is_directory = c.is_directory-is_directory.result; known = c.in_ok-own.own.known; parents = c.in_ok-parents.parents; broken = c.lesser-broken.result };
@@ -26,8 +26,7 @@ returns-clause-facts g c =
     c.is_directory-is_directory.ensures (rw shape at c.in_ok-own.ensures.own)
     (g.S.Store.image c.args.store.now) read.bytes
     (rw (read.image, read.shape) at seen.found)
-    (rw (seen.stays.image_stays, seen.stays.shape_stays, read.image, read.shape) at listed.parents)
-    (rw (seen.stays.image_stays, seen.stays.shape_stays, read.image, read.shape) at listed.broken)
+    (rw (seen.stays.image_stays, seen.stays.shape_stays, read.image, read.shape) at listed.found)
 
 pub returns-clause-stays : goal.returns-clause-stays
 returns-clause-stays g c =

@@ -1,12 +1,12 @@
-use Rattle.std.proofs.Common.{map}
-use Rattle.xn_items.specs.Viewed.{record_of}
-use Rattle.xn_facts.proofs.Seeing.{parents_over, first_over}
+use Rattle.xn_facts.proofs.ParentsOver.{core_breaks_over}
+use Rattle.xn_facts.proofs.Seeing.{parents_over}
 use Rattle.xn_facts.proofs.of_inode.records_of.Goals as goal
 
-pub returns-clause-parents : goal.returns-clause-parents
-returns-clause-parents g c =
-    rw c.both.ensures.value (parents_over (λ parents. map record_of parents.items) (g.S.Store.shape c.args.store.now) c.args.ino (g.S.Store.image c.args.store.now) c.in_ok-verdict.verdict c.in_ok-verdict.ensures.verdict)
+pub returns-in_ok-verdict-in-Ok-clause-found : goal.returns-in_ok-verdict-in-Ok-clause-found
+returns-in_ok-verdict-in-Ok-clause-found g c =
+    rw (c.both.ensures.value, c.both.ensures.broken) (parents_over (g.S.Store.shape c.args.store.now) (g.S.Store.image c.args.store.now) c.args.ino c.in_ok-verdict-in-Ok.verdict c.in_ok-verdict-in-Ok.ensures.verdict)
 
-pub returns-clause-broken : goal.returns-clause-broken
-returns-clause-broken g c =
-    rw c.both.ensures.broken (first_over (λ parents. map record_of parents.items) (g.S.Store.shape c.args.store.now) c.args.ino (g.S.Store.image c.args.store.now) c.in_ok-verdict.verdict c.in_ok-verdict.ensures.verdict)
+pub returns-in-Err-clause-found : goal.returns-in-Err-clause-found
+returns-in-Err-clause-found g c =
+    core_breaks_over (g.S.Store.shape c.args.store.now) (g.S.Store.image c.args.store.now) c.args.ino c.args.inode.now c.of_core.result c.in-Err.fault.rule c.requires.bytes
+    c.of_core.ensures.0 c.of_core.ensures.1 (rw c.in-Err.is at c.requires.core)
