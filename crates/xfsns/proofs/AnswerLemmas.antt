@@ -11,7 +11,7 @@ use Rattle.xn_bytes.specs.Superblock.{Geometry}
 use Rattle.xn_meaning.specs.Words.{AsksOf, AsksList, AsksResolve, AsksParents, AsksCheck, AsksNothing}
 use Rattle.xn_meaning.specs.Paths.{parts_of}
 use Rattle.xn_meaning.specs.NameSpace.{End}
-use Rattle.xn_meaning.specs.Outcome.{Answers, Reads, ReadsImage, IsManifestIn, geometry_in}
+use Rattle.xn_rules.specs.Outcome.{Answers, Reads, ReadsImage, IsManifestIn, geometry_in}
 use Rattle.xn_bytes.specs.Inode.{inode_of}
 use Rattle.xn_meaning.specs.Reading.{IsAttached}
 use Rattle.xn_bytes.specs.Costs.{list_cost}

@@ -4,7 +4,7 @@ use Rattle.std.proofs.Common.{◌≡◌, ℕ, ◌≤◌, List, Option, Result, E
 use Rattle.std.specs.Prelude.{IfErr}
 use Rattle.std.proofs.lemmas.Result.{IfErr-at_err}
 use Rattle.xn_bytes.specs.Causes.{Rose}
-use Rattle.xn_meaning.specs.Outcome.{AsksToRead}
+use Rattle.xn_rules.specs.Outcome.{AsksToRead}
 use Rattle.xfsns.specs.declared.home.Said.{Said}
 use Rattle.xn_text.specs.declared.words.Words.{Words}
 use Rattle.xn_text.specs.declared.words.Words.TheVariants as commands

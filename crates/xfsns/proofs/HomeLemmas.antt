@@ -11,7 +11,7 @@ use Rattle.std.proofs.lemmas.Result.{IfErr-at_err}
 use Rattle.xn_bytes.specs.Causes.{Rose}
 use Rattle.xn_meaning.specs.Manifests.{Manifest}
 use Rattle.xn_meaning.specs.NameSpace.{End}
-use Rattle.xn_meaning.specs.Checking.{CheckEnds}
+use Rattle.xn_rules.specs.Checking.{CheckEnds}
 use Rattle.xn_replay.specs.Overlay.{shown}
 use Rattle.xn_text.specs.declared.told.Summary.{Summary}
 use Rattle.xn_check.specs.Checked.{Checks, check_end}

@@ -6,8 +6,8 @@ use Rattle.xn_meaning.specs.declared.status.Status.TheVariants.{Done, Usage, Ima
 use Rattle.xn_bytes.specs.Causes.{Rose}
 use Rattle.xn_meaning.specs.NameSpace.{End, Says, Sums, Breaks}
 use Rattle.xn_meaning.specs.Reading.{ListEnds, ResolveEnds, ParentsEnd}
-use Rattle.xn_meaning.specs.Checking.{CheckEnds}
-use Rattle.xn_meaning.specs.Outcome.{Answers, Reads, ReadsImage, end_status, Outside, Tells, Outcome, FailsToSay}
+use Rattle.xn_rules.specs.Checking.{CheckEnds}
+use Rattle.xn_rules.specs.Outcome.{Answers, Reads, ReadsImage, end_status, Outside, Tells, Outcome, FailsToSay}
 use Rattle.xn_bytes.specs.Superblock.{Geometry}
 use Rattle.xn_meaning.specs.Manifests.{Manifest}
 use Rattle.xn_machine.specs.Device.{TellsFront}

@@ -11,8 +11,8 @@ use Rattle.xn_meaning.specs.NameSpace.{End}
 use Rattle.xn_bytes.specs.Inode.{inode_of}
 use Rattle.xn_bytes.specs.Costs.{list_cost}
 use Rattle.xn_meaning.specs.Reading.{ListEnds, ResolveEnds, ParentsEnd, IsAttached}
-use Rattle.xn_meaning.specs.Checking.{CheckEnds}
-use Rattle.xn_meaning.specs.Outcome.{AsksToRead, HasManifest, IsManifestIn, end_status, end_text, geometry_in}
+use Rattle.xn_rules.specs.Checking.{CheckEnds}
+use Rattle.xn_rules.specs.Outcome.{AsksToRead, HasManifest, IsManifestIn, end_status, end_text, geometry_in}
 use Rattle.xn_text.specs.declared.words.Words.{Words}
 use Rattle.xn_text.specs.declared.words.Words.TheVariants as commands
 use Rattle.xn_attr.specs.Costs.{list_most}

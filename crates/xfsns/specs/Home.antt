@@ -2,7 +2,7 @@
 use Rattle.std.specs.Prelude.{◌≡◌, ℕ, List, [], Option, Some, None, IfSome, Result, Ok, Err, IfErr}
 use Rattle.xn_bytes.specs.Causes.{Rose}
 use Rattle.xn_bytes.specs.Superblock.{Geometry}
-use Rattle.xn_meaning.specs.Outcome.{HasSuperblock, geometry_in}
+use Rattle.xn_rules.specs.Outcome.{HasSuperblock, geometry_in}
 use Rattle.xn_meaning.specs.NameSpace.{End, Says, Sums}
 use Rattle.xn_replay.specs.Overlay.{ViewState}
 use Rattle.xn_text.specs.Viewed.{reply_of, summary_of}

@@ -1,7 +1,7 @@
 -- What is found where the manifest is to be, by what is left of its source.
 use Rattle.std.specs.Prelude.{◌≡◌, ℕ, ◌<◌, ◌≤◌, List, [], length, Option, IfSome}
 use Rattle.xn_meaning.specs.Manifests.{IsManifest, IsFirstBadLine, most_bytes}
-use Rattle.xn_meaning.specs.Outcome.{IsManifestIn}
+use Rattle.xn_rules.specs.Outcome.{IsManifestIn}
 use Rattle.xn_machine.specs.Input.{Takes, EndsRightly}
 use Rattle.xfsns.specs.declared.manifest.Found.{Found}
 use Rattle.xfsns.specs.declared.manifest.Found.TheVariants as found

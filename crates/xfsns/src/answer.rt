@@ -2,7 +2,7 @@
 
 ghost use Rattle.std.specs.Prelude.{◌≡◌, ◌+◌, ◌≤◌, IfOk, IfErr, IfSome, Err, map, string_bytes};
 ghost use Rattle.xn_bytes.specs.Causes.{Rose};
-ghost use Rattle.xn_meaning.specs.Outcome.{Answers, Reads, ReadsImage, geometry_in};
+ghost use Rattle.xn_rules.specs.Outcome.{Answers, Reads, ReadsImage, geometry_in};
 ghost use Rattle.xn_meaning.specs.Manifests.{HasPlaces};
 ghost use Rattle.xn_meaning.specs.Replies as texts;
 ghost use Rattle.xn_meaning.specs.declared.status.Status.TheVariants.{Image};

@@ -1,7 +1,7 @@
 //! The program's one call: words, machine and sources in, a status out.
 
 ghost use Rattle.std.specs.Prelude.{◌≡◌, ℕ, ◌+◌, ◌*◌, ◌≤◌, List, IfSome, length, map, string_bytes};
-ghost use Rattle.xn_meaning.specs.Outcome.{Outcome, geometry_in, outside_of};
+ghost use Rattle.xn_rules.specs.Outcome.{Outcome, geometry_in, outside_of};
 ghost use Rattle.xn_bytes.specs.Inode.{inode_of};
 ghost use Rattle.xn_bytes.specs.Costs.{list_cost};
 ghost use Rattle.xn_attr.specs.Costs.{list_most};
