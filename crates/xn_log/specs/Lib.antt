@@ -1,0 +1,5 @@
+pub mod Records
+pub mod RecordFaults
+pub mod Spelled
+pub mod Ring
+pub mod Heads
