@@ -1,5 +1,5 @@
 -- Nodes that rise by their numbers: one that has a number is the only one, and a search by halves finds it.
-use Rattle.std.proofs.Common.{◌≡◌, ℕ, ◌+◌, ◌<◌, ◌≤◌, ltb, List, length, get_or, map, true, false, sym, ap, inl, inr, subst, ◌∙◌, arith, ltb-true, ltb-false}
+use Rattle.std.proofs.Common.{◌≡◌, ℕ, ◌+◌, ◌<◌, ◌≤◌, List, length, get_or, map, sym, ap, inl, inr, subst, ◌∙◌, arith}
 use Rattle.std.specs.Prelude.{Any, Contains}
 use Rattle.std.specs.List.{AllAdjacentBelow}
 use Rattle.std.specs.List.Sorted.{IsNonDecreasingBy, IsPartitionPoint}
@@ -33,10 +33,6 @@ later_above nodes rise i j d before low =
     let next : (get_or nodes i d).ino < (get_or nodes (i + 1) d).ino = rise i d (omega arith) in
     let rest : (get_or nodes (i + 1) d).ino ≤ (get_or nodes j d).ino = never_fall nodes rise (i + 1) j d (omega arith) low in
     omega (arith, next, rest)
-
--- a search by a test ends at a point that splits the nodes by what it says
-pub point_below : (nodes : List Node) (ino at : ℕ) → IsPartitionPoint (λ (node : Node). ltb node.ino ino ≡ true) (λ (node : Node). ltb node.ino ino ≡ false) nodes at → IsPartitionPoint (λ (node : Node). node.ino < ino) (λ (node : Node). ino ≤ node.ino) nodes at
-point_below nodes ino at point = (λ k d low below. ltb-true _ _ (point.0 k d low below), λ k d low below. ltb-false _ _ (point.1 k d low below))
 
 -- where it has ended, the number is there or nowhere
 pub there_or_nowhere : (nodes : List Node) (ino at : ℕ) → Rise nodes → IsPartitionPoint (λ (node : Node). node.ino < ino) (λ (node : Node). ino ≤ node.ino) nodes at

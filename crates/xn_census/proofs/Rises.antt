@@ -1,19 +1,20 @@
 -- What rises where the numbers of the live inodes do: the directories among them, and where steps start.
 use Rattle.std.proofs.Common.{◌≡◌, inl, inr, ℕ, zero, suc, ◌+◌, ◌<◌, ◌≤◌, List, [], ◌∷◌, ◌++◌, length, map, get_or, refl, sym, ap, subst, ◌∙◌, arith}
-use Rattle.std.specs.Prelude.{All}
+use Rattle.std.specs.Prelude.{All, filter}
 use Rattle.std.specs.List.{AllAdjacentBelow}
 use Rattle.std.specs.List.Sorted.{IsNonDecreasingBy}
 use Rattle.std.proofs.lemmas.List.{map-append}
-use Rattle.std.proofs.lemmas.List.Elements.{All-append, All-cons, All-head, All-nil, All-tail, All-weaker}
+use Rattle.std.proofs.lemmas.List.Elements.{All-append, All-cons, All-head, All-nil, All-tail, All-weaker, filter-append}
 use Rattle.xn_facts.specs.declared.facts.Node.{Node}
 use Rattle.xn_dir.specs.declared.listing.Listed.{Listed}
 use Rattle.xn_names.specs.declared.entry.Naming.{Naming}
+use Rattle.xn_names.proofs.Filtered.{map-filter}
 use Rattle.xn_reach.specs.declared.step.Step.{Step}
 use Rattle.xn_census.specs.declared.census.Held.{Held}
 use Rattle.xn_census.specs.declared.sorted_out.SortedOut.{SortedOut}
 use Rattle.xn_census.specs.declared.sorted_out.Whole.{Whole}
 use Rattle.xn_census.specs.Census.{AreAmong}
-use Rattle.xn_census.specs.SortedOut.{AreSortedOut, AreTaken, SortsOut, named_in, step_in}
+use Rattle.xn_census.specs.SortedOut.{AreSortedOut, AreTaken, SortsOut, lists_directory, named_in, names_directory, step_in, steps_in}
 
 module _ {X : Type 0} (key : X → ℕ) where
   abbrev pub Rises : List X → Type 0
@@ -100,25 +101,30 @@ named_steps : (held : Held) (items : List Listed) → map (step_in held) items �
 named_steps held [] = refl
 named_steps held (l ∷ items) = ap (λ (steps : List Step). step_in held l ∷ steps) (named_steps held items)
 
-steps_taken : (held : Held) (whole : Whole) (own : List Naming) (out : List Step) → AreTaken held whole own out → out ≡ map step_of own
-steps_taken held whole own out (inl (right, namings, steps)) = steps ∙ named_steps held held.contents.entries.items ∙ ap (map step_of) (sym namings)
-steps_taken held whole own out (inr (wrong, namings, steps)) = steps ∙ ap (map step_of) (sym namings)
+directory_steps : (held : Held) (items : List Listed) → steps_in held items ≡ map step_of (filter names_directory (map (named_in held) items))
+directory_steps held items = named_steps held (filter lists_directory items) ∙ ap (map step_of) (map-filter (named_in held) names_directory items)
 
-sorted_steps : (nodes : List Node) (helds : List Held) (wholes : List Whole) (namings : List Naming) (steps : List Step) → AreSortedOut nodes helds wholes namings steps → steps ≡ map step_of namings
-sorted_steps nodes [] wholes namings steps sorted = sorted.2 ∙ ap (map step_of) (sym sorted.1)
+steps_taken : (held : Held) (whole : Whole) (own : List Naming) (out : List Step) → AreTaken held whole own out → out ≡ map step_of (filter names_directory own)
+steps_taken held whole own out (inl (right, namings, steps)) =
+    steps ∙ directory_steps held held.contents.entries.items ∙ ap (λ (ns : List Naming). map step_of (filter names_directory ns)) (sym namings)
+steps_taken held whole own out (inr (wrong, namings, steps)) = steps ∙ ap (λ (ns : List Naming). map step_of (filter names_directory ns)) (sym namings)
+
+sorted_steps : (nodes : List Node) (helds : List Held) (wholes : List Whole) (namings : List Naming) (steps : List Step) → AreSortedOut nodes helds wholes namings steps → steps ≡ map step_of (filter names_directory namings)
+sorted_steps nodes [] wholes namings steps sorted = sorted.2 ∙ ap (λ (ns : List Naming). map step_of (filter names_directory ns)) (sym sorted.1)
 sorted_steps nodes (held ∷ helds) wholes namings steps (whole, others, own, rest, out, further, is, taken, are, wholes_are, namings_are, steps_are) =
     steps_are
     ∙ ap (λ (front : List Step). front ++ further) (steps_taken held whole own out taken)
-    ∙ ap (λ (behind : List Step). map step_of own ++ behind) (sorted_steps nodes helds others rest further are)
-    ∙ sym (map-append step_of own rest)
-    ∙ ap (map step_of) (sym namings_are)
+    ∙ ap (λ (behind : List Step). map step_of (filter names_directory own) ++ behind) (sorted_steps nodes helds others rest further are)
+    ∙ sym (map-append step_of (filter names_directory own) (filter names_directory rest))
+    ∙ ap (map step_of) (sym (filter-append names_directory own rest))
+    ∙ ap (λ (ns : List Naming). map step_of (filter names_directory ns)) (sym namings_are)
 
 all_start_in : (held : Held) (items : List Listed) → All (λ (step : Step). step.from ≡ held.dir) (map (step_in held) items)
 all_start_in held [] = All-nil (λ (step : Step). step.from ≡ held.dir)
 all_start_in held (l ∷ items) = All-cons (λ (step : Step). step.from ≡ held.dir) (step_in held l) (map (step_in held) items) refl (all_start_in held items)
 
 start_there : (held : Held) (whole : Whole) (own : List Naming) (out : List Step) → AreTaken held whole own out → All (λ (step : Step). step.from ≡ held.dir) out
-start_there held whole own out (inl (right, namings, steps)) = subst (λ (ss : List Step). All (λ (step : Step). step.from ≡ held.dir) ss) (sym steps) (all_start_in held held.contents.entries.items)
+start_there held whole own out (inl (right, namings, steps)) = subst (λ (ss : List Step). All (λ (step : Step). step.from ≡ held.dir) ss) (sym steps) (all_start_in held (filter lists_directory held.contents.entries.items))
 start_there held whole own out (inr (wrong, namings, steps)) = subst (λ (ss : List Step). All (λ (step : Step). step.from ≡ held.dir) ss) (sym steps) (All-nil (λ (step : Step). step.from ≡ held.dir))
 
 wholes_above : (nodes : List Node) (least : ℕ) (helds : List Held) (wholes : List Whole) (namings : List Naming) (steps : List Step) → AreAbove dir_of least helds → AreSortedOut nodes helds wholes namings steps → AreAbove whole_dir least wholes
@@ -159,6 +165,6 @@ wholes_rise nodes helds out rise sorts = wholes_in_order nodes helds out.wholes.
 pub steps_rise : (nodes : List Node) (helds : List Held) (out : SortedOut) → AllAdjacentBelow (λ (a b : Held). a.dir < b.dir) helds (length helds) → SortsOut nodes helds out → IsNonDecreasingBy (λ (step : Step). step.from) out.steps.items
 steps_rise nodes helds out rise sorts = steps_in_order nodes helds out.wholes.items out.namings.items out.steps.items rise sorts
 
--- the steps are the entries'
-pub steps_are : (nodes : List Node) (helds : List Held) (out : SortedOut) → SortsOut nodes helds out → out.steps.items ≡ map step_of out.namings.items
+-- the steps are those of the entries that are directories
+pub steps_are : (nodes : List Node) (helds : List Held) (out : SortedOut) → SortsOut nodes helds out → out.steps.items ≡ map step_of (filter names_directory out.namings.items)
 steps_are nodes helds out sorts = sorted_steps nodes helds out.wholes.items out.namings.items out.steps.items sorts

@@ -8,7 +8,7 @@ use Rattle.xn_reach.specs.declared.step.Step.{Step}
 use Rattle.xn_census.specs.declared.census.Held.{Held}
 use Rattle.xn_census.specs.declared.sorted_out.Whole.{Whole}
 use Rattle.xn_census.specs.declared.sorted_out.SortedOut.{SortedOut}
-use Rattle.xn_census.specs.SortedOut.{AreSortedOut, AreTaken, IsWholeOf, SortsOut, named_in, step_in}
+use Rattle.xn_census.specs.SortedOut.{AreSortedOut, AreTaken, IsWholeOf, SortsOut, named_in, steps_in}
 
 pub sorted_behind : (nodes : List Node) (helds : List Held) (held : Held) (wholes : List Whole) (whole : Whole) (namings own : List Naming) (steps out : List Step)
     → AreSortedOut nodes helds wholes namings steps → IsWholeOf nodes held whole → AreTaken held whole own out
@@ -43,8 +43,8 @@ sorted_behind nodes (first ∷ helds) held wholes whole namings own steps out (o
 )
 
 -- what is taken, by the test
-taken_by : (held : Held) (whole : Whole) → AreTaken held whole (if whole.is_right then map (named_in held) held.contents.entries.items else []) (if whole.is_right then map (step_in held) held.contents.entries.items else [])
-taken_by held whole = elim (whole.is_right) as (λ b. let others : Whole = record whole { is_right = b } in AreTaken held others (if b then map (named_in held) held.contents.entries.items else []) (if b then map (step_in held) held.contents.entries.items else [])) [
+taken_by : (held : Held) (whole : Whole) → AreTaken held whole (if whole.is_right then map (named_in held) held.contents.entries.items else []) (if whole.is_right then steps_in held held.contents.entries.items else [])
+taken_by held whole = elim (whole.is_right) as (λ b. let others : Whole = record whole { is_right = b } in AreTaken held others (if b then map (named_in held) held.contents.entries.items else []) (if b then steps_in held held.contents.entries.items else [])) [
   | true ↦ inl (refl, refl, refl)
   | false ↦ inr (refl, refl, refl)
 ]
@@ -53,7 +53,7 @@ pub sorts_more : (nodes : List Node) (helds : List Held) (held : Held) (whole : 
     → IsWholeOf nodes held whole
     → new.wholes.items ≡ old.wholes.items ++ whole ∷ []
     → new.namings.items ≡ old.namings.items ++ (if whole.is_right then map (named_in held) held.contents.entries.items else [])
-    → new.steps.items ≡ old.steps.items ++ (if whole.is_right then map (step_in held) held.contents.entries.items else [])
+    → new.steps.items ≡ old.steps.items ++ (if whole.is_right then steps_in held held.contents.entries.items else [])
     → SortsOut nodes helds old → SortsOut nodes (helds ++ held ∷ []) new
 sorts_more nodes helds held whole old new is wholes namings steps sorts =
     rw (wholes, namings, steps) (sorted_behind nodes helds held old.wholes.items whole old.namings.items _ old.steps.items _ sorts is (taken_by held whole))

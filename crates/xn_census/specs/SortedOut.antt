@@ -1,5 +1,5 @@
 -- Entries that name inodes rightly, and the entries of whole directories.
-use Rattle.std.specs.Prelude.{◌≡◌, ◌⊎◌, ◌↔◌, false, true, IsTrue, List, [], ◌∷◌, ◌++◌, map, count_by, All, Any, Option, Some, None}
+use Rattle.std.specs.Prelude.{◌≡◌, ◌⊎◌, ◌↔◌, Bool, false, true, IsTrue, List, [], ◌∷◌, ◌++◌, map, filter, count_by, All, Any, Option, Some, None}
 use Rattle.xn_bytes.specs.declared.kind.Kind.{Kind}
 use Rattle.xn_bytes.specs.Entries.{Entry}
 use Rattle.xn_rules.specs.NameRules.{is_directory}
@@ -22,12 +22,23 @@ IsOfKind kind (Some known) = known.kind ≡ kind
 abbrev pub RightBy : List Node → Entry → Type 0
 RightBy nodes entry = Any (λ node. (node.ino ≡ entry.ino) × IsOfKind entry.kind node.known) nodes
 
+-- an entry says of its inode that it is a directory
+abbrev pub lists_directory : Listed → Bool
+lists_directory listed = is_directory listed.kind
+
+abbrev pub names_directory : Naming → Bool
+names_directory n = is_directory n.kind
+
 -- an entry with its directory, and the step from this to the inode that it names
 abbrev pub named_in : Held → Listed → Naming
 named_in held listed = record { dir = held.dir; generation = held.generation; ino = listed.ino; kind = listed.kind; name = listed.name }
 
 abbrev pub step_in : Held → Listed → Step
 step_in held listed = record { from = held.dir; to = listed.ino }
+
+-- the steps of a directory: to the directories in it
+abbrev pub steps_in : Held → List Listed → List Step
+steps_in held entries = map (step_in held) (filter lists_directory entries)
 
 -- What is said of a directory that holds entries: whether all are right, how many name directories, and whether there are none.
 pub record IsWholeOf (nodes : List Node) (held : Held) (whole : Whole) : Type 0 where
@@ -41,7 +52,7 @@ pub record IsWholeOf (nodes : List Node) (held : Held) (whole : Whole) : Type 0 
 -- the entries of one directory: all, or none where one is not right
 abbrev pub AreTaken : Held → Whole → List Naming → List Step → Type 0
 AreTaken held whole namings steps =
-    ((whole.is_right ≡ true) × (namings ≡ map (named_in held) held.contents.entries.items) × (steps ≡ map (step_in held) held.contents.entries.items))
+    ((whole.is_right ≡ true) × (namings ≡ map (named_in held) held.contents.entries.items) × (steps ≡ steps_in held held.contents.entries.items))
     ⊎ ((whole.is_right ≡ false) × (namings ≡ []) × (steps ≡ []))
 
 -- of directories, one behind the other

@@ -3,6 +3,7 @@
 ghost use Rattle.std.specs.Prelude.{◌≡◌, ℕ, List, [], ◌∷◌, ◌++◌, All, IfErr, IfOk, IfSome, MatchOption, OnOk, map};
 ghost use Rattle.xn_bytes.specs.Causes.{Rose};
 ghost use Rattle.xn_bytes.specs.Superblock.{Geometry, IsInode};
+ghost use Rattle.xn_facts.specs.Blocks.{IsAtHand};
 ghost use Rattle.xn_facts.specs.Facts.{FactsHold};
 ghost use Rattle.xn_inode.specs.Frames.{StoreStays};
 ghost use Rattle.xn_inode.specs.declared.store.StoreFault.TheVariants.{Read};
@@ -11,7 +12,7 @@ ghost use Rattle.xn_census.specs.Census.{AreAmong, CensusHolds};
 
 use std::alloc::Global;
 use xn_bytes::Memory;
-use xn_facts::{Contents, Facts, Known, Node, Run, facts_of};
+use xn_facts::{Contents, Facts, InodeBlock, Known, Node, Run, facts_of};
 use xn_inode::{Store, StoreFault};
 use xn_items::ParentRec;
 
@@ -53,8 +54,9 @@ pub fn take_census<S: Store>(
         held: Vec::new(alloc),
         runs: Vec::new(alloc),
     };
+    let mut at_hand = InodeBlock::none();
     for ino in inodes {
-        add_inode(alloc, store, *ino, &mut census)?;
+        add_inode(alloc, store, &mut at_hand, *ino, &mut census)?;
     }
     Ok(census)
 }
@@ -63,18 +65,21 @@ pub fn take_census<S: Store>(
 fn add_inode<S: Store>(
     alloc: Global,
     store: &mut S,
+    at_hand: &mut InodeBlock,
     ino: u64,
     census: &mut Census,
 ) -> Result<(), StoreFault>
     requires whole { S.IsWhole store.old }
     requires place { IsInode (S.shape store.old) ino }
+    requires held { IfSome (S.image store.old) (λ x. IsAtHand (S.shape store.old) x at_hand.old) }
+    ensures held { OnOk result (IfSome (S.image store.new) (λ x. IsAtHand (S.shape store.new) x at_hand.new)) }
     ensures inodes_are { OnOk result (map (λ node. node.ino) census.new.nodes.items ≡ map (λ node. node.ino) census.old.nodes.items ++ ino ∷ []) }
     ensures among { OnOk result ((inodes : List ℕ) → AreAmong inodes census.old.held.items → AreAmong (inodes ++ ino ∷ []) census.new.held.items) }
     ensures adds { OnOk result (IfSome (S.image store.old) (λ x. (inodes : List ℕ) → CensusHolds (S.shape store.old) x inodes census.old → CensusHolds (S.shape store.old) x (inodes ++ ino ∷ []) census.new)) }
     ensures cause { IfErr result (λ fault. fault ≡ Read → Rose (S.faults store.old) (S.faults store.new)) }
     ensures stays { StoreStays S.Store store.old store.new }
 {
-    let facts = facts_of(alloc, store, ino)?;
+    let facts = facts_of(alloc, store, at_hand, ino)?;
     match add_facts(facts, census) {
         Ok(()) => Ok(()),
         Err(Memory) => Err(StoreFault::Memory),

@@ -8,26 +8,28 @@ ghost use Rattle.xn_census.specs.SortedOut.{RightBy};
 
 use xn_dir::Listed;
 use xn_facts::Node;
+use xn_near::count_below;
 
 /// Whether the inode of each entry is one of these, which rise, and of the kind that the entry says, where its kind is known.
 pub(crate) fn are_right(nodes: &[Node], entries: &[Listed]) -> bool
     requires { AllAdjacentBelow (λ a b. a.ino < b.ino) nodes.now (length nodes.now) }
     ensures { IsTrue result ↔ All (λ listed. RightBy nodes.now (entry_of listed)) entries.now }
 {
+    let mut near = 0;
     for entry in entries {
-        if !is_right(nodes, entry) {
+        if !is_right(nodes, entry, &mut near) {
             return false;
         }
     }
     true
 }
 
-/// Whether that of one entry is.
-fn is_right(nodes: &[Node], entry: &Listed) -> bool
+/// Whether that of one entry is. It is sought first at the place `near`, which is the place behind it from then on.
+fn is_right(nodes: &[Node], entry: &Listed, near: &mut usize) -> bool
     requires { AllAdjacentBelow (λ a b. a.ino < b.ino) nodes.now (length nodes.now) }
     ensures { IsTrue result ↔ RightBy nodes.now (entry_of entry.now) }
 {
-    match node_of(nodes, entry.ino) {
+    match node_of(nodes, entry.ino, near) {
         Some(node) => match node.known {
             Some(known) => known.kind == entry.kind,
             None => true,
@@ -36,27 +38,16 @@ fn is_right(nodes: &[Node], entry: &Listed) -> bool
     }
 }
 
-/// The one of a number, if it is among these, which rise.
-fn node_of(nodes: &[Node], ino: u64) -> Option<&Node>
+/// The one of a number, if it is among these, which rise. It is sought first at the place `near`.
+fn node_of<'a>(nodes: &'a [Node], ino: u64, near: &mut usize) -> Option<&'a Node>
     requires { AllAdjacentBelow (λ a b. a.ino < b.ino) nodes.now (length nodes.now) }
     ensures { MatchOption result (Any (λ node. node.ino ≡ ino) nodes.now → ⊥) (λ node. Contains nodes.now node.now × (node.now.ino ≡ ino)) }
 {
-    let at = count_below(nodes, ino);
+    let at = count_below(nodes, ino, *near);
     if at < nodes.len() && nodes[at].ino == ino {
+        *near = at + 1;
         Some(&nodes[at])
     } else {
         None
     }
-}
-
-/// How many of these, which rise, have a lesser number.
-fn count_below(nodes: &[Node], ino: u64) -> usize
-    requires { AllAdjacentBelow (λ a b. a.ino < b.ino) nodes.now (length nodes.now) }
-    ensures { IsPartitionPoint (λ node. node.ino < ino) (λ node. ino ≤ node.ino) nodes.now result }
-{
-    nodes.partition_point(
-        |node: &Node| -> bool
-            ensures { result ≡ nat_lt node.now.ino ino }
-        { node.ino < ino },
-    )
 }

@@ -3,7 +3,7 @@
 ghost use Rattle.std.specs.Prelude.{◌≡◌, ◌<◌, if◌then◌else◌, List, [], ◌∷◌, ◌++◌, IfOk, OnOk, count_by, length, map};
 ghost use Rattle.std.specs.List.{AllAdjacentBelow};
 ghost use Rattle.xn_rules.specs.NameRules.{is_directory};
-ghost use Rattle.xn_census.specs.SortedOut.{IsWholeOf, SortsOut, named_in, step_in};
+ghost use Rattle.xn_census.specs.SortedOut.{IsWholeOf, SortsOut, lists_directory, named_in, steps_in};
 
 use crate::census::Held;
 use crate::entries::are_right;
@@ -12,6 +12,7 @@ use xn_bytes::Kind;
 use xn_dir::Listed;
 use xn_facts::{Contents, Node};
 use xn_names::Naming;
+use xn_near::Numbered;
 use xn_reach::Step;
 
 /// What is said of a directory that holds entries with names.
@@ -29,13 +30,22 @@ pub struct Whole {
     pub is_empty: bool,
 }
 
+/// Directories have the numbers of their inodes.
+impl Numbered for Whole {
+    ghost number_of = { λ whole. whole.dir };
+
+    fn number(&self) -> u64 {
+        self.dir
+    }
+}
+
 /// Directories, and the entries of those of which rule 21 holds.
 #[derive(Debug, Drop)]
 pub struct SortedOut {
     pub wholes: Vec<Whole>,
     /// One directory behind the other.
     pub namings: Vec<Naming>,
-    /// From the directory of each entry to the inode that it names.
+    /// From the directory of each entry that is a directory to that one.
     pub steps: Vec<Step>,
 }
 
@@ -44,9 +54,10 @@ pub fn sort_out(alloc: Global, nodes: &[Node], helds: Vec<Held>) -> Result<Sorte
     requires { AllAdjacentBelow (λ a b. a.ino < b.ino) nodes.now (length nodes.now) }
     ensures { IfOk result (SortsOut nodes.now helds.items) }
 {
+    // Most inodes are named by one entry.
     let mut out = SortedOut {
         wholes: Vec::new(alloc),
-        namings: Vec::new(alloc),
+        namings: Vec::with_capacity(alloc, nodes.len())?,
         steps: Vec::new(alloc),
     };
     for held in helds {
@@ -99,7 +110,7 @@ fn take_entries(
     steps: &mut Vec<Step>,
 ) -> Result<(), AllocError>
     ensures namings { OnOk result (namings.new.items ≡ namings.old.items ++ (if are_right then map (named_in held) held.contents.entries.items else [])) }
-    ensures steps { OnOk result (steps.new.items ≡ steps.old.items ++ (if are_right then map (step_in held) held.contents.entries.items else [])) }
+    ensures steps { OnOk result (steps.new.items ≡ steps.old.items ++ (if are_right then steps_in held held.contents.entries.items else [])) }
 {
     if !are_right {
         return Ok(());
@@ -115,16 +126,26 @@ fn take_entries(
         has_dot: _,
     } = contents;
     for entry in entries {
-        steps.push(Step {
-            from: dir,
-            to: entry.ino,
-        })?;
+        add_step(dir, &entry, steps)?;
         namings.push(Naming {
             dir,
             generation,
             ino: entry.ino,
             kind: entry.kind,
             name: entry.name,
+        })?;
+    }
+    Ok(())
+}
+
+/// Adds the step to the inode that an entry names, if that is a directory.
+fn add_step(dir: u64, entry: &Listed, steps: &mut Vec<Step>) -> Result<(), AllocError>
+    ensures { OnOk result (steps.new.items ≡ steps.old.items ++ (if lists_directory entry.now then record { from = dir; to = entry.now.ino } ∷ [] else [])) }
+{
+    if matches!(entry.kind, Kind::Dir) {
+        steps.push(Step {
+            from: dir,
+            to: entry.ino,
         })?;
     }
     Ok(())

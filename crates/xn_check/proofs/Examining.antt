@@ -1,16 +1,16 @@
 -- From what was judged of an image to the first rule that is broken, or to an image of which all hold.
-use Rattle.std.proofs.Common.{◌≡◌, ℕ, List, get_or, length, map, Option, Some, None, Result, Ok, Err, sym}
-use Rattle.std.specs.Prelude.{All, IfSome, IsPermutation}
+use Rattle.std.proofs.Common.{◌≡◌, ℕ, List, get_or, length, map, Option, Some, None, Result, Ok, Err, Bool, ◌↔◌, ◌∙◌, ap, sym}
+use Rattle.std.specs.Prelude.{All, IfSome, IsPermutation, IsTrue}
 use Rattle.std.proofs.lemmas.List.Elements.{Contains-get_or}
 use Rattle.std.proofs.lemmas.List.Sorted.{IsPermutation-refl}
 use Rattle.xn_bytes.specs.Superblock.{Geometry, IsInode}
 use Rattle.xn_meaning.specs.Manifests.{Manifest, HasPlaces}
 use Rattle.xn_rules.specs.Namings.{AreLive, Naming as Means}
 use Rattle.xn_rules.specs.Checking.{directories_among}
-use Rattle.xn_rules.specs.Sound.{Contents}
+use Rattle.xn_rules.specs.Sound.{Contents, MapOnce}
 use Rattle.xn_facts.specs.Facts.{mapped_of}
 use Rattle.xn_facts.specs.declared.facts.Node.{Node}
-use Rattle.xn_facts.specs.declared.facts.Run.{Run}
+use Rattle.xn_bytes.specs.Extents.{Run}
 use Rattle.xn_census.specs.declared.census.Census.{Census}
 use Rattle.xn_census.specs.declared.sorted_out.SortedOut.{SortedOut}
 use Rattle.xn_census.specs.Census.{CensusHolds}
@@ -49,11 +49,16 @@ module _ (g : Geometry) (m : Manifest) (live : List ℕ) (census : Census) (out 
   abbrev IsJudgedOver : Result ℕ CheckFault → Type 0
   IsJudgedOver result = (manifest : Manifest) (image : List ℕ) → IsFound g manifest image live census.nodes.items out → Judges g manifest image live out (map mapped_of census.runs.items) result
 
-  pub judged_same : (h : Geometry) (inodes : List ℕ) (nodes : List Node) (runs : List Run) (result : Result ℕ CheckFault) → h ≡ g → inodes ≡ live → nodes ≡ census.nodes.items → runs ≡ census.runs.items
-      → ((manifest : Manifest) (image : List ℕ) → IsFound h manifest image inodes nodes out → Judges h manifest image inodes out (map mapped_of runs) result) → IsJudgedOver result
-  judged_same h inodes nodes runs result same_shape same_inodes same_nodes same_runs judged manifest image is_found =
-      let there : IsFound h manifest image inodes nodes out = rw (same_shape, same_inodes, same_nodes) is_found in
-      rw (sym same_shape, sym same_inodes, sym same_runs) (judged manifest image there)
+  pub judged_same : (h : Geometry) (nodes : List Node) (once : Bool) (result : Result ℕ CheckFault) → h ≡ g → nodes ≡ census.nodes.items → map (λ (node : Node). node.ino) census.nodes.items ≡ live
+      → (IsTrue once ↔ MapOnce live (map mapped_of census.runs.items))
+      → ((manifest : Manifest) (image : List ℕ) (runs : List Run) → IsFound h manifest image (map (λ (node : Node). node.ino) nodes) nodes out
+      → (IsTrue once ↔ MapOnce (map (λ (node : Node). node.ino) nodes) runs) → Judges h manifest image (map (λ (node : Node). node.ino) nodes) out runs result)
+      → IsJudgedOver result
+  judged_same h nodes once result same_shape same_nodes same_inodes told judged manifest image is_found =
+      let inodes : map (λ (node : Node). node.ino) nodes ≡ live = ap (map (λ (node : Node). node.ino)) same_nodes ∙ same_inodes in
+      let there : IsFound h manifest image (map (λ (node : Node). node.ino) nodes) nodes out = rw (inodes, same_shape, same_nodes) is_found in
+      let once_there : IsTrue once ↔ MapOnce (map (λ (node : Node). node.ino) nodes) (map mapped_of census.runs.items) = rw inodes told in
+      rw (sym same_shape, sym inodes) (judged manifest image (map mapped_of census.runs.items) there once_there)
 
   refused : (image : List ℕ) (fault : CheckFault) → CensusHolds g image live census → Judges g m image live out (map mapped_of census.runs.items) (Err fault) → Refuses g m image fault
   refused image faults.Read holds judged = tt

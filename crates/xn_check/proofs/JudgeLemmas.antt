@@ -1,6 +1,6 @@
 -- What is known of sorted-out entries is known of them in order, and what steps lead to, entries do.
-use Rattle.std.proofs.Common.{◌≡◌, ◌↔◌, ℕ, zero, suc, Bool, List, [], ◌∷◌, length, map, refl, sym, ap, ◌∙◌, arith}
-use Rattle.std.specs.Prelude.{All, Any, Contains, IsPermutation, IsTrue, vec_len}
+use Rattle.std.proofs.Common.{◌≡◌, ◌↔◌, ℕ, zero, suc, Bool, List, [], ◌∷◌, length, map, refl, sym, ap, subst, ◌∙◌, arith}
+use Rattle.std.specs.Prelude.{All, Any, Contains, IsPermutation, IsTrue, filter, vec_len}
 use Rattle.std.proofs.lemmas.List.{length-map}
 use Rattle.std.proofs.lemmas.List.Elements.{All-same, All-weaker}
 use Rattle.std.proofs.lemmas.List.Sorted.{All-permutation, IsPermutation-sym, IsPermutation-map, length_permutation}
@@ -15,11 +15,14 @@ use Rattle.xn_facts.specs.Facts.{NodeHolds}
 use Rattle.xn_facts.specs.declared.facts.Node.{Node}
 use Rattle.xn_census.specs.declared.sorted_out.Whole.{Whole}
 use Rattle.xn_census.specs.declared.sorted_out.SortedOut.{SortedOut}
+use Rattle.xn_census.specs.SortedOut.{names_directory}
 use Rattle.xn_names.specs.Names.{naming_of}
 use Rattle.xn_names.specs.declared.entry.Naming.{Naming}
+use Rattle.xn_names.proofs.Filtered.{map-filter}
+use Rattle.xn_names.proofs.Permuted.{filter-permutation}
 use Rattle.xn_names.proofs.Moved.{Leads-moved, count_standing-moved, no_standing-moved}
 use Rattle.xn_reach.specs.Steps as steps
-use Rattle.xn_check.specs.Known.{IsRightWhole, WholeHolds, NamesHold, meant}
+use Rattle.xn_check.specs.Known.{IsRightWhole, StandsWhole, WholeHolds, NamesHold, meant}
 use Rattle.xn_check.specs.Judged.{AreNamesOf, IsFound, IsSortedOut, OutHolds, meant_by, step_of}
 use Rattle.xn_check.specs.declared.names.Names.{Names}
 
@@ -56,19 +59,30 @@ steps_lead namings from (next ∷ path) to (some, rest) = (
   steps_lead namings next path to rest,
 )
 
--- so what steps lead to is what entries in another order lead to
+-- the entries that are directories, as the rules see them
+directories_meant : (namings : List Naming) → map naming_of (filter names_directory namings) ≡ filter says_directory (map naming_of namings)
+directories_meant namings = map-filter naming_of says_directory namings
+
+-- so what steps to directories lead to is what entries in another order that are directories lead to
 pub led_in_order : (g : Geometry) (out : SortedOut) (namings : List Naming) (reached : List ℕ) → IsSortedOut out → IsPermutation out.namings.items namings
     → ((number : ℕ) → Contains reached number ↔ ((path : List ℕ) × steps.Leads out.steps.items g.root path number))
-    → (number : ℕ) → Contains reached number ↔ ((path : List ℕ) × Leads (map naming_of namings) g.root path number)
+    → (number : ℕ) → Contains reached number ↔ ((path : List ℕ) × Leads (filter says_directory (map naming_of namings)) g.root path number)
 led_in_order g out namings reached sorted moved told number =
-    let same : IsPermutation (meant_by out) (map naming_of namings) = IsPermutation-map naming_of out.namings.items namings moved in
-    let back : IsPermutation (map naming_of namings) (meant_by out) = IsPermutation-sym (meant_by out) (map naming_of namings) same in
+    let own : List Naming = filter names_directory out.namings.items in
+    let others : List Naming = filter names_directory namings in
+    let same : IsPermutation own others = filter-permutation names_directory out.namings.items namings moved in
+    let there : IsPermutation (map naming_of own) (map naming_of others) = IsPermutation-map naming_of own others same in
+    let back : IsPermutation (map naming_of others) (map naming_of own) = IsPermutation-sym (map naming_of own) (map naming_of others) there in
     let ways = rw sorted.steps at (told number) in (
-      λ there.
-          let way = ways.0 there in
-          (way.0, Leads-moved (meant_by out) (map naming_of namings) same g.root way.0 number (entries_lead out.namings.items g.root way.0 number way.1)),
+      λ reaches.
+          let way = ways.0 reaches in (
+            way.0,
+            subst (λ (ns : List Means). Leads ns g.root way.0 number) (directories_meant namings)
+                (Leads-moved (map naming_of own) (map naming_of others) there g.root way.0 number (entries_lead own g.root way.0 number way.1)),
+          ),
       λ way.
-          ways.1 (way.0, steps_lead out.namings.items g.root way.0 number (Leads-moved (map naming_of namings) (meant_by out) back g.root way.0 number way.1)),
+          let others_lead = subst (λ (ns : List Means). Leads ns g.root way.0 number) (sym (directories_meant namings)) way.1 in
+          ways.1 (way.0, steps_lead own g.root way.0 number (Leads-moved (map naming_of others) (map naming_of own) back g.root way.0 number others_lead)),
     )
 
 -- ---- of directories
@@ -105,6 +119,7 @@ names_hold {g} {m} {image} {out} {names} are holds = record {
       (WholeHolds-moved g m image (meant_by out) (meant names) (meant_in_order are)) out.wholes.items holds.wholes);
   others = rw are.wholes holds.others;
   generations = All-permutation (λ n. n.generation ≡ number_at 4 92 (inode_of g image n.dir)) out.namings.items names.namings.items are.namings holds.generations;
+  standing = All-permutation (StandsWhole g m image) (meant_by out) (meant names) (meant_in_order are) holds.standing;
   leads = are.leads;
 }
 

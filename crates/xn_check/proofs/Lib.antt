@@ -15,3 +15,4 @@ pub mod MarkLemmas
 pub mod CountLemmas
 pub mod FreeLemmas
 pub mod Checking
+mod DirectoryWays

@@ -15,16 +15,12 @@ use Rattle.xn_verdicts.proofs.OneParents.{one_parents}
 use Rattle.xn_names.specs.declared.entry.Naming.{Naming}
 use Rattle.xn_names.specs.Names.{HasOneGeneration, asked_by, naming_of}
 use Rattle.xn_names.proofs.AskedRecords.{one_generation_from}
-use Rattle.xn_check.specs.Known.{HoldsRecords}
+use Rattle.xn_check.specs.Known.{HasItsGeneration, HoldsRecords}
 use Rattle.xn_check.proofs.RuleLemmas.{told_by}
 
 -- ---- generations
 
--- an entry has the generation of its directory
-abbrev pub HasItsGeneration : Geometry → List ℕ → Naming → Type 0
-HasItsGeneration g image n = n.generation ≡ number_at 4 92 (inode_of g image n.dir)
-
--- so have those that name an inode
+-- those that name an inode have the generations of their directories
 pub generations_among : (g : Geometry) (image : List ℕ) (ino : ℕ) (run namings items : List Naming) → run ≡ filter (λ n. n.ino == ino) namings → namings ≡ items
     → All (HasItsGeneration g image) items → All (HasItsGeneration g image) run
 generations_among g image ino run namings items are same all =

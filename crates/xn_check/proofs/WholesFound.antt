@@ -1,9 +1,9 @@
 -- What is found of a directory among those that rise.
-use Rattle.std.proofs.Common.{◌≡◌, ℕ, ◌+◌, ◌<◌, true, false, List, length, get_or, Option, Some, None, sym, subst, arith, inl, inr, ltb}
+use Rattle.std.proofs.Common.{◌≡◌, ℕ, ◌+◌, ◌<◌, ◌≤◌, true, false, List, length, get_or, Option, Some, None, sym, subst, arith, inl, inr}
 use Rattle.std.specs.Prelude.{◌≢◌, All}
 use Rattle.std.specs.List.{AllAdjacentBelow}
 use Rattle.std.specs.List.Sorted.{IsNonDecreasingBy, IsPartitionPoint}
-use Rattle.std.proofs.lemmas.Bool.{cases_order, ltb-true, ltb-false}
+use Rattle.std.proofs.lemmas.Bool.{cases_order}
 use Rattle.std.proofs.lemmas.List.Elements.{All-contains}
 use Rattle.std.proofs.lemmas.List.Sorted.{IsNonDecreasingBy-from_all_adjacent}
 use Rattle.xn_bytes.specs.Superblock.{Geometry}
@@ -31,14 +31,14 @@ rises_apart n xs rises i j d before within =
 
 -- where the directory at the place is another, and behind the last, none is this one
 pub none_there : (wholes : List Whole) (dir at : ℕ) → AllAdjacentBelow (λ a b. a.dir < b.dir) wholes (length wholes)
-    → IsPartitionPoint (λ w. ltb w.dir dir ≡ true) (λ w. ltb w.dir dir ≡ false) wholes at
+    → IsPartitionPoint (λ w. w.dir < dir) (λ w. dir ≤ w.dir) wholes at
     → ((d : Whole) → at < length wholes → (get_or wholes at d).dir ≡ dir → ⊥) → All (λ w. w.dir ≢ dir) wholes
 none_there wholes dir at rises point other k d within same = elim (cases_order k at) [
   | inl here ↦ other d (omega (arith, here, within)) (subst (λ (i : ℕ). (get_or wholes i d).dir ≡ dir) here same)
-  | inr (inl before) ↦ let less = ltb-true (get_or wholes k d).dir dir (point.0 k d (omega arith) before) in omega (arith, less, same)
+  | inr (inl before) ↦ let less : (get_or wholes k d).dir < dir = point.0 k d (omega arith) before in omega (arith, less, same)
   | inr (inr behind) ↦
       let there : at < length wholes = omega (arith, behind, within) in
-      let low = ltb-false (get_or wholes at d).dir dir (point.1 at d (omega arith) there) in
+      let low : dir ≤ (get_or wholes at d).dir = point.1 at d (omega arith) there in
       let more = rises_apart (λ (w : Whole). w.dir) wholes rises at k d behind within in
       omega (arith, low, more, same)
 ]

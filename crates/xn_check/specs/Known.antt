@@ -1,9 +1,10 @@
 -- What is known of an image once its inodes were looked at one by one and the entries of its directories were taken out.
 use Rattle.std.specs.Prelude.{◌≡◌, ◌≢◌, ◌⊎◌, ◌↔◌, ℕ, ◌<◌, true, false, IsTrue, Option, MatchOption}
-use Rattle.std.specs.Prelude.{List, [], length, map, count_by, All, Contains, IsPermutation}
+use Rattle.std.specs.Prelude.{List, [], length, map, filter, count_by, Some, All, Contains, IsPermutation}
 use Rattle.std.specs.List.{AllAdjacentBelow}
 use Rattle.std.specs.List.Sorted.{IsNonDecreasingBy}
 use Rattle.xn_bytes.specs.Numbers.{number_at}
+use Rattle.xn_bytes.specs.Kinds.{kind_of_mode}
 use Rattle.xn_bytes.specs.Superblock.{Geometry}
 use Rattle.xn_bytes.specs.Inode.{inode_of, HasCore, HasBothForks}
 use Rattle.xn_bytes.specs.Entries.{Entry}
@@ -17,6 +18,7 @@ use Rattle.xn_rules.specs.NameRules.{BreaksLinks, BreaksDirectoryLinks, BreaksEn
 use Rattle.xn_rules.specs.NameRules.{HasDirectoryLinks, HasDot, HasPlaceInTree, HasRightDotdot, says_directory}
 use Rattle.xn_facts.specs.Facts.{IsHeld}
 use Rattle.xn_census.specs.declared.sorted_out.Whole.{Whole}
+use Rattle.xn_names.specs.declared.entry.Naming.{Naming}
 use Rattle.xn_names.specs.Names.{naming_of, IsInOrder}
 use Rattle.xn_check.specs.declared.names.Names.{Names}
 
@@ -41,6 +43,14 @@ pub record WholeHolds (g : Geometry) (m : Manifest) (image : List ℕ) (namings 
   pub right : whole.is_right ≡ true → IsRightWhole g m image namings whole
   pub wrong : whole.is_right ≡ false → BreaksEntries g m image whole.dir × IsNoWhole g m image whole.dir
 
+-- an entry of a whole directory names its inode as one of its kind, where that one's core and forks are right
+pub record StandsWhole (g : Geometry) (m : Manifest) (image : List ℕ) (n : Means) : Type 0 where
+  pub entries : List Entry
+  pub dotdot : ℕ
+  pub whole : IsWhole g m image n.dir entries dotdot
+  pub kind : HasCore (inode_of g image n.ino) n.ino g.meta_uuid → HasBothForks g (inode_of g image n.ino) n.ino
+      → kind_of_mode (number_at 2 2 (inode_of g image n.ino)) ≡ Some n.kind
+
 -- what is found among these of a directory, if anything is
 abbrev pub IsWholeAmong : List Whole → ℕ → Option Whole → Type 0
 IsWholeAmong wholes dir found = MatchOption found (All (λ whole. whole.dir ≢ dir) wholes) (λ whole. Contains wholes whole × (whole.dir ≡ dir))
@@ -60,13 +70,18 @@ pub record AreSearched (names : Names) : Type 0 where
   pub namings : IsNonDecreasingBy (λ n. n.ino) names.namings.items
   pub wholes : AllAdjacentBelow (λ a b. a.dir < b.dir) names.wholes.items (length names.wholes.items)
 
--- The directories that hold entries with names, the entries of those whose entries are right, and what entries lead to from the root,
--- over an image.
+-- an entry has the generation of its directory
+abbrev pub HasItsGeneration : Geometry → List ℕ → Naming → Type 0
+HasItsGeneration g image n = n.generation ≡ number_at 4 92 (inode_of g image n.dir)
+
+-- The directories that hold entries with names, the entries of those whose entries are right, and what entries that are directories
+-- lead to from the root, over an image.
 pub record NamesHold (g : Geometry) (m : Manifest) (image : List ℕ) (names : Names) : Type 0 where
   pub wholes : All (WholeHolds g m image (meant names)) names.wholes.items
   pub others : (dir : ℕ) → IsLive g m dir → All (λ whole. whole.dir ≢ dir) names.wholes.items → IsNotHeld g image dir
-  pub generations : All (λ n. n.generation ≡ number_at 4 92 (inode_of g image n.dir)) names.namings.items
-  pub leads : (number : ℕ) → Contains names.reached number ↔ ((path : List ℕ) × Leads (meant names) g.root path number)
+  pub generations : All (HasItsGeneration g image) names.namings.items
+  pub standing : All (StandsWhole g m image) (meant names)
+  pub leads : (number : ℕ) → Contains names.reached number ↔ ((path : List ℕ) × Leads (filter says_directory (meant names)) g.root path number)
 
 -- ---- what each of the rules between inodes says, where it is looked at
 

@@ -4,3 +4,4 @@ pub mod Known
 pub mod Judged
 pub mod Examined
 pub mod Checked
+pub mod Surveyed

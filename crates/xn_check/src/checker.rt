@@ -22,8 +22,8 @@ use xn_text::{Manifest, Summary};
 /// the first that is broken. The view is as it was made, with the manifest's pool of which every block is free. Where the image is
 /// accepted, each block of the pool that is mapped is used from then on.
 ///
-/// It reads each live inode once, of a directory three times, and each block of their forks once, of a directory the first one three
-/// times. It takes time as n log n and memory as n, in inodes and entries.
+/// It reads each block with live inodes once, the inode of a directory twice more, and each block of their forks once, of a directory
+/// the first one three times. It takes time as n log n and memory as n, in inodes and entries.
 pub fn check<M: Machine>(
     alloc: Global,
     machine: &mut M,

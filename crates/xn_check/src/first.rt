@@ -9,7 +9,7 @@ ghost use Rattle.xn_rules.specs.Sound.{IsFirstInode};
 ghost use Rattle.xn_facts.specs.Facts.{NodeHolds};
 ghost use Rattle.xn_check.specs.Known.{AreSearched, NamesHold, meant};
 
-use crate::names::Names;
+use crate::names::{Names, Near};
 use crate::rules::broken_rule;
 use xn_facts::{Broken, Node};
 use xn_inode::Super;
@@ -23,8 +23,12 @@ pub(crate) fn first_broken(geometry: &Super, names: &Names, nodes: &[Node]) -> O
         → MatchOption result (All (Stands geometry.now m image (meant names.now)) (map (λ node. node.ino) nodes.now))
         (λ first. IsFirstInode geometry.now m image (meant names.now) first.1.rule first.0 first.1.block) }
 {
+    let mut near = Near {
+        wholes: 0,
+        namings: 0,
+    };
     for node in nodes {
-        if let Some(broken) = broken_rule(geometry, names, node) {
+        if let Some(broken) = broken_rule(geometry, names, node, &mut near) {
             return Some((node.ino, broken));
         }
     }

@@ -1,10 +1,10 @@
 //! The rules from 5 on, over what was found of an image's live inodes.
 
-ghost use Rattle.std.specs.Prelude.{◌≡◌, ◌≢◌, ◌↔◌, ◌<◌, ℕ, Contains, IfErr, IfOk, List, length, map};
-ghost use Rattle.std.specs.List.{AllAdjacentBelow};
+ghost use Rattle.std.specs.Prelude.{◌≡◌, ◌≢◌, ◌↔◌, ℕ, Contains, IfErr, IfOk, IsTrue, List, map};
 ghost use Rattle.std.specs.List.Sorted.{IsNonDecreasingBy};
 ghost use Rattle.xn_meaning.specs.Manifests.{Manifest};
-ghost use Rattle.xn_facts.specs.Facts.{mapped_of};
+ghost use Rattle.xn_bytes.specs.Extents.{Run};
+ghost use Rattle.xn_rules.specs.Sound.{MapOnce};
 ghost use Rattle.xn_reach.specs.Steps.{Leads};
 ghost use Rattle.xn_check.specs.Judged.{AreNamesOf, IsFound, IsSortedOut, Judges};
 ghost use Rattle.xn_check.specs.Known.{AreSearched};
@@ -13,36 +13,35 @@ ghost use Rattle.xn_check.specs.declared.fault.CheckFault.TheVariants.{Memory, R
 use crate::fault::CheckFault;
 use crate::first::first_broken;
 use crate::names::Names;
-use crate::whole_image::{root_is_right, runs_are_right};
+use crate::whole_image::root_is_right;
 use std::alloc::Global;
 use xn_bytes::Memory as OutOfMemory;
 use xn_census::SortedOut;
-use xn_facts::{Node, Run};
+use xn_facts::Node;
 use xn_inode::Super;
 use xn_names::in_order;
 use xn_reach::{Reached, Step};
 
-/// How many entries there are, where all rules from 5 on hold; else the first that is broken. The nodes are those of the live inodes,
-/// and the runs those of all their forks.
+/// How many entries there are, where all rules from 5 on hold; else the first that is broken. The nodes are those of the live inodes.
+/// Whether rule 9 holds, of the runs of all their forks, is known.
 pub(crate) fn judge(
     alloc: Global,
     geometry: &Super,
-    live: &[u64],
     nodes: &[Node],
     out: SortedOut,
-    runs: &[Run],
+    is_mapped_once: bool,
 ) -> Result<u64, CheckFault>
-    requires live { AllAdjacentBelow (λ a b. a < b) live.now (length live.now) }
-    requires nodes { map (λ node. node.ino) nodes.now ≡ live.now }
-    requires out { IsSortedOut out }
-    ensures judges { (m : Manifest) (image : List ℕ) → IsFound geometry.now m image live.now nodes.now out → Judges geometry.now m image live.now out (map mapped_of runs.now) result }
+    requires { IsSortedOut out }
+    ensures judges { (m : Manifest) (image : List ℕ) (runs : List Run) → IsFound geometry.now m image (map (λ node. node.ino) nodes.now) nodes.now out
+        → (IsTrue is_mapped_once ↔ MapOnce (map (λ node. node.ino) nodes.now) runs)
+        → Judges geometry.now m image (map (λ node. node.ino) nodes.now) out runs result }
     ensures reads_nothing { IfErr result (λ fault. fault ≢ Read) }
 {
     let entries = out.namings.len() as u64;
     if !root_is_right(geometry, nodes, entries) {
         return Err(CheckFault::of_image(5));
     }
-    if !runs_are_right(alloc, runs, live)? {
+    if !is_mapped_once {
         return Err(CheckFault::of_image(9));
     }
     let names = names_of(alloc, geometry, out)?;

@@ -12,3 +12,10 @@ pub(crate) struct Names {
     pub namings: Vec<Naming>,
     pub reached: Reached,
 }
+
+/// Where is looked first for what is said of the next inode.
+#[derive(Clone, Copy, Debug)]
+pub(crate) struct Near {
+    pub wholes: usize,
+    pub namings: usize,
+}

@@ -6,3 +6,4 @@ pub mod Forks
 pub mod RunLists
 pub mod ContentsOver
 pub mod Together
+mod InodesInBlocks

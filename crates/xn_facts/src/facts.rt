@@ -7,6 +7,7 @@ use xn_bytes::Kind;
 use xn_dir::Listed;
 use xn_inode::{CoreFault, ForkFault, StoreFault};
 use xn_items::ParentRec;
+use xn_near::Numbered;
 
 /// A rule that an inode breaks. Rules 17, 18 and 25 name a block by its number on the device, all others block 0.
 #[derive(Clone, Copy, Debug, PartialEq, Eq)]
@@ -88,6 +89,14 @@ pub struct Node {
     pub parents: Option<Vec<ParentRec>>,
     /// The first that is broken of the rules 10, 11, 13 to 20 and 24 to 26, and of 21 as far as it speaks of names.
     pub broken: Option<Broken>,
+}
+
+impl Numbered for Node {
+    ghost number_of = { λ node. node.ino };
+
+    fn number(&self) -> u64 {
+        self.ino
+    }
 }
 
 /// What the rules on one inode and its blocks say of an inode.

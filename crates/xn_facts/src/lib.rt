@@ -3,9 +3,11 @@
 
 mod contents;
 mod facts;
+mod inodes;
 mod of_inode;
 mod own;
 mod runs;
 
 pub use facts::{Broken, Contents, Facts, Known, Node, Run, lesser};
+pub use inodes::InodeBlock;
 pub use of_inode::facts_of;

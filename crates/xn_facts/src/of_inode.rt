@@ -1,6 +1,6 @@
 //! The facts of an inode of a store.
 
-ghost use Rattle.std.specs.Prelude.{◌≡◌, ◌↔◌, IsTrue, IfErr, IfOk, IfSome, MatchResult, map};
+ghost use Rattle.std.specs.Prelude.{◌≡◌, ◌↔◌, IsTrue, IfErr, IfOk, IfSome, OnOk, MatchResult, map};
 ghost use Rattle.std.specs.Result.{result_ok, result_err};
 ghost use Rattle.xn_bytes.specs.Causes.{Rose};
 ghost use Rattle.xn_bytes.specs.Inode.{CoreHolds, HasBothForks, HasCore, inode_of};
@@ -10,12 +10,14 @@ ghost use Rattle.xn_inode.specs.Frames.{StoreStays};
 ghost use Rattle.xn_inode.specs.declared.store.StoreFault.TheVariants.{Read};
 ghost use Rattle.xn_items.specs.Viewed.{record_of};
 ghost use Rattle.xn_rules.specs.InodeRules.{IsOfDirectory};
+ghost use Rattle.xn_facts.specs.Blocks.{IsAtHand};
 ghost use Rattle.xn_facts.specs.Owned.{IsCoreVerdict};
 ghost use Rattle.xn_facts.specs.Facts.{FactsHold};
 ghost use Rattle.xn_facts.specs.Seen.{AreSeenParents, IsSeenDirectory};
 
 use crate::contents::contents_of;
 use crate::facts::{Broken, Contents, Facts, Node, lesser};
+use crate::inodes::InodeBlock;
 use crate::own::own_of;
 use std::alloc::Global;
 use xn_bytes::{Kind, u16_at};
@@ -25,18 +27,25 @@ use xn_parent::parents_in_inode;
 
 const INODE_BYTES: usize = 512;
 
-/// What the rules on one inode and its blocks say of this inode. It reads the inode once, of a directory three times, and each
-/// block of its forks once, of a directory the first one three times.
-pub fn facts_of<S: Store>(alloc: Global, store: &mut S, ino: u64) -> Result<Facts, StoreFault>
+/// What the rules on one inode and its blocks say of this inode. It reads the inode's block, if that isn't the one at hand, of a
+/// directory the inode twice, and each block of its forks once, of a directory the first one three times.
+pub fn facts_of<S: Store>(
+    alloc: Global,
+    store: &mut S,
+    at_hand: &mut InodeBlock,
+    ino: u64,
+) -> Result<Facts, StoreFault>
     requires whole { S.IsWhole store.old }
     requires place { IsInode (S.shape store.old) ino }
+    requires held { IfSome (S.image store.old) (λ x. IsAtHand (S.shape store.old) x at_hand.old) }
+    ensures held { OnOk result (IfSome (S.image store.new) (λ x. IsAtHand (S.shape store.new) x at_hand.new)) }
     ensures number { IfOk result (λ facts. facts.node.ino ≡ ino) }
     ensures facts { IfOk result (λ facts. IfSome (S.image store.old) (λ x. FactsHold (S.shape store.old) x facts)) }
     ensures cause { IfErr result (λ fault. fault ≡ Read → Rose (S.faults store.old) (S.faults store.new)) }
     ensures stays { StoreStays S.Store store.old store.new }
 {
     let mut inode = [0; INODE_BYTES];
-    store.inode(ino, &mut inode)?;
+    at_hand.inode(store, ino, &mut inode)?;
     let is_directory = is_directory(&inode);
     let core = Core::of_inode(store.geometry(), ino, &inode);
     let own = own_of(alloc, store.geometry(), ino, &core, &inode)?;

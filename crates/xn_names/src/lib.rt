@@ -11,6 +11,6 @@ mod tree;
 pub use dots::has_dotdot;
 pub use entry::Naming;
 pub use links::{has_directory_links, has_links};
-pub use order::{in_order, naming};
+pub use order::{in_order, naming, naming_near};
 pub use records::are_records;
 pub use tree::{has_place, is_unnamed};

@@ -11,12 +11,11 @@ use crate::order::naming;
 use crate::tree::is_unnamed;
 use xn_inode::Super;
 
-/// Whether an inode that is no directory has as many links as entries name it.
-pub fn has_links(namings: &[Naming], ino: u64, nlink: u32) -> bool
-    requires { IsNonDecreasingBy (λ n. n.ino) namings.now }
-    ensures { IsTrue result ↔ (nlink ≡ length (naming_inode ino (map naming_of namings.now))) }
+/// Whether an inode that is no directory, and that these entries name, has as many links.
+pub fn has_links(naming: &[Naming], nlink: u32) -> bool
+    ensures { IsTrue result ↔ (nlink ≡ length naming.now) }
 {
-    nlink as usize == naming(namings, ino).len()
+    nlink as usize == naming.len()
 }
 
 /// Whether a directory, in which so many entries say of their inode that it is a directory, has 2 links and one for each of those;

@@ -7,6 +7,7 @@ ghost use Rattle.xn_names.specs.Names.{naming_of, naming_cmp, IsInOrder, IsByPla
 
 use crate::entry::Naming;
 use std::cmp::Ordering;
+use xn_near::{count_below, count_up_to};
 
 /// The entries in order. It takes no memory. They take no more memory for it.
 pub fn in_order(namings: Vec<Naming>) -> Vec<Naming>
@@ -26,9 +27,21 @@ pub fn naming(namings: &[Naming], ino: u64) -> &[Naming]
     ensures viewed { map naming_of result.now ≡ naming_inode ino (map naming_of namings.now) }
     ensures placed { IsInOrder namings.now → IsByPlace result.now }
 {
-    let start = namings.partition_point(|naming| naming.ino < ino);
+    let mut near = 0;
+    naming_near(namings, ino, &mut near)
+}
+
+/// The same, sought first at the place `near`. From then on that is the place behind them, where those that name the next inode stand.
+pub fn naming_near<'a>(namings: &'a [Naming], ino: u64, near: &mut usize) -> &'a [Naming]
+    requires { IsNonDecreasingBy (λ n. n.ino) namings.now }
+    ensures are { result.now ≡ filter (λ n. n.ino == ino) namings.now }
+    ensures viewed { map naming_of result.now ≡ naming_inode ino (map naming_of namings.now) }
+    ensures placed { IsInOrder namings.now → IsByPlace result.now }
+{
+    let start = count_below(namings, ino, *near);
     let from = &namings[start..];
-    let count = from.partition_point(|naming| naming.ino <= ino);
+    let count = count_up_to(from, ino);
+    *near = start + count;
     &from[..count]
 }
 

@@ -4,7 +4,7 @@ use xn_bytes::{Kind, Name};
 use xn_inode::Super;
 use xn_items::ParentRec;
 use xn_make::superblock;
-use xn_names::{Naming, has_dotdot, has_links, is_unnamed, naming};
+use xn_names::{Naming, has_dotdot, has_links, is_unnamed, naming, naming_near};
 
 /// The root, 128, has the directory 131 and the file 133; 131 has the directory 132, and 133 once more, before and behind `a`.
 /// The directory 140 is named by none, and has the file 141.
@@ -50,6 +50,11 @@ fn entries_of_an_inode(rt: HostRuntime) -> Result<(), Fail> {
     ] {
         let told = spelled(rt, naming(&namings, ino))?;
         assert_eq!(rt; told.as_str(), want, "of {ino}");
+        for start in 0..9 {
+            let mut near = start;
+            let told = spelled(rt, naming_near(&namings, ino, &mut near))?;
+            assert_eq!(rt; told.as_str(), want, "of {ino} near {start}");
+        }
     }
     let told = spelled(rt, &namings)?;
     assert_eq!(rt;
@@ -69,7 +74,7 @@ fn links(rt: HostRuntime) -> Result<(), Fail> {
         (134, 0, true),
         (134, 1, false),
     ] {
-        assert_eq!(rt; has_links(&namings, ino, nlink), want, "of {ino}");
+        assert_eq!(rt; has_links(naming(&namings, ino), nlink), want, "of {ino}");
     }
     let geometry = geometry()?;
     // one directory in the root, and one in 131; none in 132; 140 is detached

@@ -3,14 +3,15 @@
 
 use super::{Asked, check_rows};
 
-/// As many calls as a check takes here, and more. Of the sample each inode is read once, and a directory three times.
+/// As many calls as a check takes here, and more. Of the sample each block of inodes is read once, and then each directory twice.
 pub(super) const CALLS: u64 = 192;
 
 /// Images that are accepted.
 const SOUND_ROWS: &str = r"
 check IMAGE MANIFEST | sample manifest:'xfsns-manifest_1/chunk_128_0000000000000000/pool_512_64/' | 0 ok inodes 64 directories 16 entries 0 pending 0 free 64
-# of it each inode is read once and a directory three times, behind the superblock; the 98th call tells the reply
-check IMAGE MANIFEST | sample manifest:'xfsns-manifest_1/chunk_128_0000000000000000/pool_512_64/' fails:98 | 6
+# of it each of 8 blocks of inodes is read once and each directory twice, behind the superblock; the 42nd call tells the reply
+check IMAGE MANIFEST | sample manifest:'xfsns-manifest_1/chunk_128_0000000000000000/pool_512_64/' fails:41 | 4
+check IMAGE MANIFEST | sample manifest:'xfsns-manifest_1/chunk_128_0000000000000000/pool_512_64/' fails:42 | 6
 # the root alone, also without attribute fork; a file and a directory that it names
 check IMAGE MANIFEST | short:0000_00000080 manifest:'xfsns-manifest_1/chunk_128_fffffffffffffffe/' | 0 ok inodes 1 directories 1 entries 0 pending 0 free 0
 check IMAGE MANIFEST | short:0000_00000080 inode:128 82=00 manifest:'xfsns-manifest_1/chunk_128_fffffffffffffffe/' | 0 ok inodes 1 directories 1 entries 0 pending 0 free 0

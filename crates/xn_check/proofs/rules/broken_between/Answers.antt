@@ -1,6 +1,10 @@
+use Rattle.std.proofs.Common.{◌≡◌, ◌∙◌, ap, map}
 use Rattle.std.proofs.lemmas.Bool.{MatchBool-at_false, MatchBool-at_true}
+use Rattle.xn_rules.specs.Namings.{naming}
+use Rattle.xn_names.specs.Names.{naming_of}
 use Rattle.xn_rules.specs.NameRules.{BreaksDots, BreaksEntries, BreaksRecords, BreaksTree}
 use Rattle.xn_check.specs.Known.{BreaksTwelve, HoldsDots, HoldsEntries, HoldsRecords, HoldsTree, HoldsTwelve, meant}
+use Rattle.xn_check.proofs.RecordLemmas.{generations_among}
 use Rattle.xn_check.proofs.WholesFound.{whole_is_of}
 use Rattle.xn_check.proofs.BetweenLemmas.{dots_first, entries_first, links_first, place_first, records_first}
 use Rattle.xn_check.proofs.rules.broken_between.Goals as goal
@@ -75,8 +79,11 @@ returns-then-not-records_are_right c m image names_hold live holds =
     c.if-not-dots_are_right.false (c.dots_are_right.ensures m image ino known) in
     let place = MatchBool-at_true (HoldsTree g m image (meant names) ino) (BreaksTree g m image (meant names) ino)
     c.if-not-place_is_right.false (c.place_is_right.ensures m image ino names_hold known) in
+    let run = c.naming_near-named.result.now in
+    let viewed : map naming_of run ≡ naming ino (meant names) = c.naming_near-named.ensures.viewed ∙ ap (λ ns. naming ino (map naming_of ns)) c.deref-2.ensures.value in
+    let generations = generations_among g image ino run c.deref-2.result.now names.namings.items c.naming_near-named.ensures.are c.deref-2.ensures.value names_hold.generations in
     let breaks = MatchBool-at_false (HoldsRecords g image (meant names) ino) (BreaksRecords g image (meant names) ino)
-    c.if-not-records_are_right.true (c.records_are_right.ensures g m image names_hold holds) in
+    c.if-not-records_are_right.true (c.records_are_right.ensures g image (meant names) viewed generations holds) in
     records_first g m image (meant names) ino
     c.of_rule-then-not-records_are_right.result c.of_rule-then-not-records_are_right.ensures links entries dots place breaks
 
@@ -94,6 +101,9 @@ returns c m image names_hold live holds =
     c.if-not-dots_are_right.false (c.dots_are_right.ensures m image ino known) in
     let place = MatchBool-at_true (HoldsTree g m image (meant names) ino) (BreaksTree g m image (meant names) ino)
     c.if-not-place_is_right.false (c.place_is_right.ensures m image ino names_hold known) in
+    let run = c.naming_near-named.result.now in
+    let viewed : map naming_of run ≡ naming ino (meant names) = c.naming_near-named.ensures.viewed ∙ ap (λ ns. naming ino (map naming_of ns)) c.deref-2.ensures.value in
+    let generations = generations_among g image ino run c.deref-2.result.now names.namings.items c.naming_near-named.ensures.are c.deref-2.ensures.value names_hold.generations in
     let records = MatchBool-at_true (HoldsRecords g image (meant names) ino) (BreaksRecords g image (meant names) ino)
-    c.if-not-records_are_right.false (c.records_are_right.ensures g m image names_hold holds) in
+    c.if-not-records_are_right.false (c.records_are_right.ensures g image (meant names) viewed generations holds) in
     record { links = links; entries = entries; dots = dots; place = place; records = records }

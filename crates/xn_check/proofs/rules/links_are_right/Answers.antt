@@ -1,4 +1,5 @@
-use Rattle.std.proofs.Common.{◌≡◌, ◌↔◌, List, Some, length, map, subst, sym, ap, ◌∙◌, rules}
+use Rattle.std.proofs.lemmas.List.{length-map}
+use Rattle.std.proofs.Common.{◌≡◌, ◌↔◌, ℕ, List, Some, length, map, subst, sym, ap, ◌∙◌, rules}
 use Rattle.std.specs.Prelude.{IsTrue, count_by}
 use Rattle.std.proofs.lemmas.Bool.{not-false, true≢false}
 use denote.Enum.Bare.{same_true, sameb}
@@ -19,7 +20,9 @@ returns-then-ne c m image known holds =
     let node = c.args.node.now in
     let is = node_known g image node c.in-Some.known c.in-Some.is holds in
     let other : c.in-Some.known.kind ≡ Dir → ⊥ = λ e. let said = rw e at c.ne.ensures in true≢false (sym c.if-ne.true ∙ said) in
-    let tells = subst (λ (namings : List Naming). IsTrue c.has_links.result ↔ (c.in-Some.known.nlink ≡ length (naming node.ino (map naming_of namings)))) c.deref.ensures.value c.has_links.ensures in
+    let counted : length c.args.named.now ≡ length (naming node.ino (meant c.args.names.now)) =
+    sym (length-map c.args.named.now naming_of) ∙ ap length c.requires.named in
+    let tells = subst (λ (count : ℕ). IsTrue c.has_links.result ↔ (c.in-Some.known.nlink ≡ count)) counted c.has_links.ensures in
     links_told g m image (meant c.args.names.now) node.ino c.in-Some.known c.has_links.result is other tells
 
 pub returns-in-Some-whole : goal.returns-in-Some-whole
@@ -31,7 +34,7 @@ returns-in-Some-whole c m image known holds =
     let is = node_known g image node c.in-Some.known c.in-Some.is holds in
     let of = found_right g m image names node.ino c.args.whole whole c.in-Some-whole.is c.if-whole.true known in
     let says = subst (λ (namings : List Naming). whole.subdirectories ≡ count_by says_directory (standing_in node.ino (map naming_of namings))
-    → (IsTrue c.has_directory_links.result ↔ HasDirectoryLinks g (map naming_of namings) node.ino c.in-Some.known.nlink)) c.deref-in-Some-whole.ensures.value c.has_directory_links.ensures in
+    → (IsTrue c.has_directory_links.result ↔ HasDirectoryLinks g (map naming_of namings) node.ino c.in-Some.known.nlink)) c.deref.ensures.value c.has_directory_links.ensures in
     let subdirectories = of.1.subdirectories ∙ ap (λ dir. count_by says_directory (standing_in dir (meant names))) of.0 in
     directory_links_told g m image (meant names) node.ino c.in-Some.known whole c.has_directory_links.result is of (says subdirectories)
 

@@ -1,10 +1,12 @@
 use Rattle.std.proofs.Common.{◌≡◌, ◌↔◌, ℕ, List, [], map, subst}
 use Rattle.std.specs.Prelude.{IsTrue}
-use Rattle.xn_rules.specs.Namings.{Leads, standing_in}
+use Rattle.xn_bytes.specs.Entries.{Entry}
+use Rattle.xn_rules.specs.Namings.{IsWhole, Leads, standing_in}
 use Rattle.xn_rules.specs.NameRules.{HasPlaceInTree}
 use Rattle.xn_names.specs.declared.entry.Naming.{Naming}
 use Rattle.xn_names.specs.Names.{naming_of}
 use Rattle.xn_check.specs.Known.{meant}
+use Rattle.xn_check.proofs.DirectoryWays.{over_all, over_directories}
 use Rattle.xn_check.proofs.WholesFound.{found_none, found_right, found_wrong}
 use Rattle.xn_check.proofs.RuleLemmas.{place_told}
 use Rattle.xn_check.proofs.rules.place_is_right.Goals as goal
@@ -20,7 +22,13 @@ returns-in-Some c m image dir names_hold known =
     → (IsTrue c.has_place.result ↔ HasPlaceInTree g (map naming_of namings) whole.dir)) c.deref.ensures.value c.has_place.ensures in
     let reached = c.has-is_reached.ensures in
     let leads = names_hold.leads whole.dir in
-    place_told g m image (meant names) whole dir c.has_place.result of (says of.1.empty (λ yes. leads.0 (reached.0 yes), λ way. reached.1 (leads.1 way)))
+    let is_whole : (entries : List Entry) × (dotdot : ℕ) × IsWhole g m image whole.dir entries dotdot = (of.1.entries, whole.dotdot, of.1.holds) in
+    place_told g m image (meant names) whole dir c.has_place.result of (says of.1.empty (
+      λ yes.
+          let way = leads.0 (reached.0 yes) in
+          (way.0, over_all (meant names) g.root way.0 whole.dir way.1),
+      λ way. reached.1 (leads.1 (way.0, over_directories g m image (meant names) names_hold.standing g.root way.0 whole.dir is_whole way.1)),
+    ))
 
 pub returns-in_default : goal.returns-in_default
 returns-in_default c m image dir names_hold known = λ entries dotdot is.
