@@ -1,6 +1,6 @@
 -- Records of the log: a header of one sector (`struct xlog_rec_header` of `xfs_log_format.h`) and a body of whole sectors, in which
 -- operations stand one behind the other (`struct xlog_op_header`). "The bytes" are those from the header's sector on.
-use Rattle.std.specs.Prelude.{◌≡◌, ◌⊎◌, ℕ, zero, suc, ◌+◌, ◌*◌, ◌/◌, ◌%◌, ◌^◌, ◌<◌, ◌≤◌, Bool, true, false, IsTrue, ◌==◌, ◌&&◌, nat_lt, nat_le, if◌then◌else◌, List, [], ◌∷◌, ◌++◌, length, take, drop, replicate, slice_range}
+use Rattle.std.specs.Prelude.{◌≡◌, ◌⊎◌, ℕ, zero, suc, ◌+◌, ◌*◌, ◌/◌, ◌%◌, ◌^◌, ◌<◌, ◌≤◌, Bool, true, IsTrue, ◌==◌, ◌&&◌, nat_lt, nat_le, if◌then◌else◌, List, [], ◌∷◌, ◌++◌, length, take, drop, replicate, slice_range}
 use Rattle.xn_bytes.specs.Numbers.{number_at, little_number_at, overlaid}
 use Rattle.xn_bytes.specs.Checksum.{crc32c}
 use Rattle.xn_log.specs.declared.operation.Op.{Op}
@@ -157,12 +157,6 @@ log_client = 0xaa
 -- the log says that it was unmounted
 abbrev pub is_unmount : Op → Bool
 is_unmount op = (op.client == log_client) && has_flag op.flags unmount_flag
-
--- operations that are just the unmount operation
-abbrev pub are_just_unmount : List Op → Bool
-are_just_unmount [] = false
-are_just_unmount (op ∷ []) = is_unmount op
-are_just_unmount (op ∷ next ∷ ops) = false
 
 -- the bytes hold a record of just the unmount operation
 abbrev pub holds_unmount : List ℕ → Bool

@@ -1,0 +1,5 @@
+pub mod Answers
+pub mod Headers
+pub mod Checks
+pub mod Bodies
+pub mod Writing
