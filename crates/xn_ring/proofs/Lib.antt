@@ -1,0 +1,12 @@
+pub mod Places
+pub mod Walks
+pub mod Falling
+pub mod Labelling
+pub mod Heads
+pub mod OnRing
+pub mod ReadPieces
+pub mod Noting
+pub mod Scanning
+pub mod Decoding
+pub mod Assembling
+pub mod Accepted

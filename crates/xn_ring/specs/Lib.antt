@@ -1,0 +1,4 @@
+pub mod Chains
+pub mod Labels
+pub mod Places
+pub mod Scans
