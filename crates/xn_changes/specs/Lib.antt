@@ -1,0 +1,4 @@
+pub mod Transactions
+pub mod Items
+pub mod Decoded
+pub mod Spelled

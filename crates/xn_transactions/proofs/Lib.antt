@@ -1,0 +1,10 @@
+pub mod RegionLemmas
+pub mod PieceLemmas
+pub mod NameTexts
+pub mod MapLemmas
+pub mod ItemLemmas
+pub mod WithinLemmas
+pub mod JoiningLemmas
+pub mod PlacingLemmas
+pub mod DecodingLemmas
+pub mod WalkLemmas
