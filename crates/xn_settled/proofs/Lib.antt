@@ -1,0 +1,5 @@
+pub mod Laying
+pub mod Lengths
+pub mod Cores
+pub mod Pieces
+pub mod Covering

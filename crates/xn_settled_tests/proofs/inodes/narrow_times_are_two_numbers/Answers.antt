@@ -1,0 +1,7 @@
+use Rattle.std.proofs.Common.{refl}
+use Rattle.xn_bytes.specs.Numbers.{number_at}
+use Rattle.xn_settled_tests.proofs.inodes.narrow_times_are_two_numbers.Goals as goal
+
+pub home-requires : goal.home-requires
+unfolding number_at
+home-requires g c = refl
