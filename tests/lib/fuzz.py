@@ -264,6 +264,7 @@ class Hand:
             (data(self.block), "bu[0].inumber", self.leaf, wanted(22, self.block)),
             (data(self.block), "bu[1].inumber", self.leaf, wanted(22, self.block)),
             (data(self.node), "du[1].inumber", self.leaf, wanted(22, self.node)),
+            (inode(self.root), "u3.sfdir3.list[1].inumber.i4", self.root, wanted(23, self.root)),
             (data(self.block), "bu[2].inumber", 8, lost(self.block, 21)),
             (data(self.block), "bu[2].inumber", self.other, wanted(12, min(self.file, self.other))),
             (data(self.block), "bu[2].filetype", 3, lost(self.block, 21)),
